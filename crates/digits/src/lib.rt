@@ -1,0 +1,1 @@
+// No code: the digits of numbers, as bits, stand in specs/.
