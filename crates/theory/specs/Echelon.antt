@@ -1,4 +1,4 @@
--- The proof that a reduced row echelon form is unique.
+-- Spans, and the proof that a reduced row echelon form is unique.
 use mathlib.Core.Path.{_≡_, refl, sym, ap, ap₂, _∙_}
 use mathlib.Core.Bool.{Bool, true, false, _&&_, true≢false, and-false, and-true}
 use mathlib.Core.Logic.{_⊎_, inl, inr}
@@ -6,8 +6,40 @@ use Prim.Native.Nat.{ℕ, zero, suc, _≤_, _<_}
 use native.Mathlib.Nat.{le-refl, le-antisymm}
 use native.Mathlib.Decide.{ℕ-discrete, decLt}
 use native.Mathlib.Omega.{arith}
-use Rattle.theory.specs.Def.{xorsum, Spanned, Reduced}
-use Rattle.theory.specs.Laws.{below-suc, xorsum-none, xorsum-pick}
+use Rattle.theory.specs.Def.{_⊕_, xorsum, Spanned, Reduced}
+use Rattle.theory.specs.Laws.{⊕-and, below-suc, xorsum-⊕, xorsum-cong, xorsum-none, xorsum-pick}
+
+-- ---- spans
+
+spanned-none : (k m : ℕ) (Q : ℕ → ℕ → Bool) → Spanned k m Q (λ _. false)
+spanned-none k m Q = record { chosen = λ _. false; sum = λ b _. sym (xorsum-none m _ (λ i _. refl)) }
+
+pub spanned-add : (k m : ℕ) (Q : ℕ → ℕ → Bool) (u v : ℕ → Bool) → Spanned k m Q u → Spanned k m Q v → Spanned k m Q (λ b. u b ⊕ v b)
+spanned-add k m Q u v x y =
+    record {
+      chosen = λ i. x .chosen i ⊕ y .chosen i;
+      sum = λ b h.
+          ap₂ _⊕_ (x .sum b h) (y .sum b h)
+          ∙ sym (xorsum-cong m _ _ (λ i _. ⊕-and (x .chosen i) (y .chosen i) (Q i b)) ∙ xorsum-⊕ m (λ i. x .chosen i && Q i b) (λ i. y .chosen i && Q i b));
+    }
+
+spanned-scale : (k m : ℕ) (Q : ℕ → ℕ → Bool) (c : Bool) (u : ℕ → Bool) → Spanned k m Q u → Spanned k m Q (λ b. c && u b)
+spanned-scale k m Q true u x = x
+spanned-scale k m Q false u x = spanned-none k m Q
+
+pub spanned-sum : (k m n : ℕ) (Q R : ℕ → ℕ → Bool) (c : ℕ → Bool) → ((i : ℕ) → i < n → Spanned k m Q (R i)) → Spanned k m Q (λ b. xorsum n (λ i. c i && R i b))
+unfolding xorsum
+spanned-sum k m zero Q R c f = spanned-none k m Q
+spanned-sum k m (suc n) Q R c f =
+    spanned-add k m Q (λ b. xorsum n (λ i. c i && R i b)) (λ b. c n && R n b) (spanned-sum k m n Q R c (λ i h. f i (omega arith))) (spanned-scale k m Q (c n) (R n) (f n (omega arith)))
+
+-- a sum of rows that are sums of the rows Q is a sum of the rows Q
+pub spanned-trans : (k n m : ℕ) (R Q : ℕ → ℕ → Bool) (v : ℕ → Bool) → Spanned k n R v → ((i : ℕ) → i < n → Spanned k m Q (R i)) → Spanned k m Q v
+spanned-trans k n m R Q v x f =
+    let y = spanned-sum k m n Q R (x .chosen) f in
+    record { chosen = y .chosen; sum = λ b h. x .sum b h ∙ y .sum b h }
+
+-- ---- reduced rows
 
 -- a number below n that f takes to x, or none
 search-below : (n : ℕ) (f : ℕ → ℕ) (x : ℕ) → ((j : ℕ) × (j < n) × (f j ≡ x)) ⊎ ((j : ℕ) → j < n → ¬ (f j ≡ x))

@@ -1,0 +1,50 @@
+-- The proof that a refusal is given exactly in its case, and the lowest of several.
+use mathlib.Core.Path.{_≡_, refl, sym, ap, _∙_}
+use mathlib.Core.Bool.{Bool, true, false, _||_, cond, true≢false, false≢true}
+use mathlib.Core.List.{List, [], _∷_, _++_}
+use mathlib.Core.Logic.{_⊎_, inl, inr, _↔_, ⊎-elim}
+use Prim.Native.Nat.{ℕ, zero, suc, _≤_, _<_}
+use native.Mathlib.Nat.{le-antisymm}
+use native.Mathlib.Omega.{arith}
+use Rattle.document.specs.Refusals.{Case, lowest}
+
+-- a case of the number n is given
+abbrev pub Applies : ℕ → List Case → Type 0
+Applies n [] = ⊥
+Applies n (c ∷ cs) = ((c .number ≡ n) × (c .given ≡ true)) ⊎ Applies n cs
+
+-- the numbers are above m, and rise
+abbrev pub Rising : ℕ → List Case → Type 0
+Rising m [] = Unit {0}
+Rising m (c ∷ cs) = (m < c .number) × Rising (c .number) cs
+
+above : (m : ℕ) (cs : List Case) → Rising m cs → (n : ℕ) → Applies n cs → m < n
+above m [] r n a = absurd a
+above m (c ∷ cs) (l, r) n (inl (e, g)) = omega arith
+above m (c ∷ cs) (l, r) n (inr a) = omega (arith, above (c .number) cs r n a)
+
+-- the least number that applies, or 0 where none does
+abbrev Least : ℕ → List Case → Type 0
+Least n cs = ((n ≡ 0) × ((m : ℕ) → ¬ Applies m cs)) ⊎ (Applies n cs × ((m : ℕ) → Applies m cs → n ≤ m))
+
+least : (m : ℕ) (cs : List Case) → Rising m cs → Least (lowest cs) cs
+unfolding lowest
+least m [] r = inl (refl, λ n a. a)
+least m (c ∷ cs) (l, r) = go (c .given) refl (least (c .number) cs r)
+  where
+    go : (b : Bool) → c .given ≡ b → Least (lowest cs) cs → Least (cond b (c .number) (lowest cs)) (c ∷ cs)
+    go true e x = inr (inl (refl, e), λ n a. ⊎-elim (λ p. omega (arith, p .0)) (λ p. omega (arith, above (c .number) cs r n p)) a)
+    go false e (inl (z, f)) = inl (z, λ n a. ⊎-elim (λ p. true≢false (sym (p .1) ∙ e)) (f n) a)
+    go false e (inr (a, f)) = inr (inr a, λ n b. ⊎-elim (λ p. absurd (true≢false (sym (p .1) ∙ e))) (f n) b)
+
+pub accepted : (cs : List Case) → Rising 0 cs → (lowest cs ≡ 0) ↔ ((m : ℕ) → ¬ Applies m cs)
+accepted cs r = ⊎-elim
+    (λ x. (λ _. x .1, λ _. x .0))
+    (λ x. (λ e. absurd (omega (arith, above 0 cs r (lowest cs) (x .0))), λ f. absurd (f (lowest cs) (x .0))))
+    (least 0 cs r)
+
+pub refused : (cs : List Case) → Rising 0 cs → (n : ℕ) → 0 < n → (lowest cs ≡ n) ↔ (Applies n cs × ((m : ℕ) → Applies m cs → n ≤ m))
+refused cs r n p = ⊎-elim
+    (λ x. (λ e. absurd (omega (arith, x .0)), λ y. absurd (x .1 n (y .0))))
+    (λ x. (λ e. (rw (← e) (x .0), λ m a. rw (← e) (x .1 m a)), λ y. le-antisymm (x .1 n (y .0)) (y .1 (lowest cs) (x .0))))
+    (least 0 cs r)
