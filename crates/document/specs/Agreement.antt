@@ -19,7 +19,7 @@ use Rattle.kinds.specs.Generator.{Machine}
 use Rattle.kinds.specs.Linear.{LinearMachine}
 use Rattle.kinds.specs.Theorems.{tausworthe-linear, gfsr-linear, twisted-linear, mersenne-linear, output-linear}
 use Rattle.document.specs.declared.Fields.{Fields}
-use Rattle.document.specs.Generator.{machine}
+use Rattle.document.specs.Generator.{byKind, machine}
 use Rattle.document.specs.Memory.{Front}
 use Rattle.document.specs.Cells.{bitOf, cellBit, FirstSet, Answer}
 use Rattle.document.specs.Basis.{row, BasisOf}
@@ -29,7 +29,7 @@ unfolding cellBit bitOf
 cell-linear M x l i = output-linear M x (i / l) (i % l)
 
 pub machine-linear : (g : Fields) → LinearMachine (machine g)
-unfolding machine
+unfolding machine byKind
 machine-linear g = pick (eqb (g .kind) 1) (eqb (g .kind) 2) (eqb (g .kind) 3)
     (tausworthe-linear _ _ _ _) (gfsr-linear _ _ _ _) (twisted-linear _ _ _ _ _ _ _ _ _) (mersenne-linear _ _ _ _ _ _ _ _ _ _ _ _)
   where
@@ -79,6 +79,6 @@ module _ (M : Machine) (t l : ℕ) where
   pub bases-agree : (n m : ℕ) (R Q : ℕ → Word) → BasisOf M t l n R → BasisOf M t l m Q → (n ≡ m) × ((i : ℕ) → i < n → (b : ℕ) → R i b ≡ Q i b)
   bases-agree n m R Q p q =
       let (e, f) = T.reduced-unique (p .reduced) (q .reduced)
-              (λ i h. spanned-trans (M .size) (t * l) m (row M l) Q (R i) (p .sums i h) (q .all))
-              (λ i h. spanned-trans (M .size) (t * l) n (row M l) R (Q i) (q .sums i h) (p .all)) in
+      (λ i h. spanned-trans (M .size) (t * l) m (row M l) Q (R i) (p .sums i h) (q .all))
+      (λ i h. spanned-trans (M .size) (t * l) n (row M l) R (Q i) (q .sums i h) (p .all)) in
       (e, λ i h b. by-cases (decLt b (M .size)) (f i h b) (λ g. p .past i h b (omega arith) ∙ sym (q .past i (omega (arith, e)) b (omega arith))))

@@ -93,10 +93,10 @@ module _ (M : Machine) (t l : ℕ) (ws : List ℕ) where
   unfoldable pub wellLed : Bool
   wellLed =
       all (length ws) (λ i.
-          ltb (leads i) (M .size) && rows i (leads i) && ltb (getD ws i 0) (2 ^ M .size) && isSum (M .size) (t * l) (row M l) (rows i)
-          && all (leads i) (λ b. not (rows i b))
-          && all i (λ j. ltb (leads j) (leads i))
-          && all (length ws) (λ j. eqb j i || not (rows j (leads i))))
+      ltb (leads i) (M .size) && rows i (leads i) && ltb (getD ws i 0) (2 ^ M .size) && isSum (M .size) (t * l) (row M l) (rows i)
+      && all (leads i) (λ b. not (rows i b))
+      && all i (λ j. ltb (leads j) (leads i))
+      && all (length ws) (λ j. eqb j i || not (rows j (leads i))))
 
   unfoldable pub covering : Bool
   covering = all (t * l) (λ i. isSum (M .size) (length ws) rows (row M l i))

@@ -8,7 +8,7 @@ use Rattle.kinds.specs.Generator.{Machine, tausworthe, gfsr, twisted, mersenne}
 use Rattle.document.specs.declared.Fields.{Fields}
 
 -- one of four, by the kind
-abbrev pub byKind : {A : Type 0} → ℕ → A → A → A → A → A
+unfoldable pub byKind : {A : Type 0} → ℕ → A → A → A → A → A
 byKind kind one two three four = cond (eqb kind 1) one (cond (eqb kind 2) two (cond (eqb kind 3) three four))
 
 -- a_(i+1). "a_1 is the bit of value 128 in the first coefficient byte, a_8 its bit of value 1, a_9 the 128 of the next"

@@ -13,4 +13,6 @@ pub mod Value
 pub mod Lowest
 pub mod Agreement
 pub mod Decide
+pub mod Ranges
 pub mod Cases
+pub mod Theorems

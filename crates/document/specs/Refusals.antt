@@ -98,40 +98,67 @@ rangeCases g = (3 if badSize g) ∷ (4 if badBits g) ∷ (5 if badShift g) ∷ (
 abbrev pub fieldCases : Fields → List Case
 fieldCases g = (1 if badKind g) ∷ rangeCases g
 
--- ---- the calls
+-- ---- the calls: those rows of the table that the column Where gives to each
 
 -- reading the bytes bs
-unfoldable pub readRefusal : List ℕ → ℕ
-readRefusal bs =
-    lowest
-    ((1 if eqb (length bs) 0 || outside 1 4 (getD bs 0 0)) ∷ (2 if not (eqb (length bs) (lengthOf (getD bs 0 0)))) ∷ rangeCases (fieldsOf bs))
+abbrev pub readCases : List ℕ → List Case
+readCases bs =
+    (1 if eqb (length bs) 0 || outside 1 4 (getD bs 0 0))
+    ∷ (2 if not (eqb (length bs) (lengthOf (getD bs 0 0))))
+    ∷ rangeCases (fieldsOf bs)
 
 -- writing into a buffer of `room` bytes
-unfoldable pub writeRefusal : Fields → ℕ → ℕ
-writeRefusal g room = lowest (fieldCases g ++ ((11 if ltb room (lengthOf (g .kind))) ∷ []))
+abbrev pub writeCases : Fields → ℕ → List Case
+writeCases g room = fieldCases g ++ ((11 if ltb room (lengthOf (g .kind))) ∷ [])
 
 -- t outputs from a start state of 8 words into a buffer of `room` numbers
-unfoldable pub outputsRefusal : Fields → ℕ → List ℕ → ℕ → ℕ
-outputsRefusal g t state room =
-    lowest
-    (fieldCases g
-    ++ ((7 if outside 1 (size g) t) ∷ (9 if any (64 * rowWords) (λ i. not (ltb i (size g)) && bitsOf state i)) ∷ (11 if ltb room t) ∷ []))
+abbrev pub outputsCases : Fields → ℕ → List ℕ → ℕ → List Case
+outputsCases g t state room =
+    fieldCases g
+    ++ ((7 if outside 1 (size g) t)
+    ∷ (9 if any (64 * rowWords) (λ i. not (ltb i (size g)) && bitsOf state i))
+    ∷ (11 if ltb room t)
+    ∷ [])
 
 -- the question (t, l), with a work buffer of `room` words
-unfoldable pub questionRefusal : Fields → ℕ → ℕ → ℕ → ℕ
-questionRefusal g t l room =
-    lowest (fieldCases g ++ ((7 if outside 1 (size g) t) ∷ (8 if outside 1 (g .bits) l) ∷ (11 if ltb room workWords) ∷ []))
+abbrev pub questionCases : Fields → ℕ → ℕ → ℕ → List Case
+questionCases g t l room = fieldCases g ++ ((7 if outside 1 (size g) t) ∷ (8 if outside 1 (g .bits) l) ∷ (11 if ltb room workWords) ∷ [])
 
 -- the basis of (t, l), and its check call
-unfoldable pub basisRefusal : Fields → ℕ → ℕ → ℕ → ℕ
-basisRefusal g t l room =
-    lowest
-    (fieldCases g
-    ++ ((7 if outside 1 (size g) t) ∷ (8 if outside 1 (g .bits) l) ∷ (10 if ltb (size g) (t * l)) ∷ (11 if ltb room workWords) ∷ []))
+abbrev pub basisCases : Fields → ℕ → ℕ → ℕ → List Case
+basisCases g t l room =
+    fieldCases g
+    ++ ((7 if outside 1 (size g) t) ∷ (8 if outside 1 (g .bits) l) ∷ (10 if ltb (size g) (t * l)) ∷ (11 if ltb room workWords) ∷ [])
 
-unfoldable pub reportRefusal : Fields → ℕ → ℕ
-reportRefusal g room = lowest (fieldCases g ++ ((11 if ltb room workWords) ∷ []))
+abbrev pub reportCases : Fields → ℕ → List Case
+reportCases g room = fieldCases g ++ ((11 if ltb room workWords) ∷ [])
 
 -- "The value call tests L as 1 to 32 only"; 6 where the number is not below 2^L
+abbrev pub valueCases : ℕ → ℕ → List Case
+valueCases y L = (4 if outside 1 mostOutput L) ∷ (6 if not (ltb y (2 ^ L))) ∷ []
+
+-- ---- what each call answers
+
+unfoldable pub fieldRefusal : Fields → ℕ
+fieldRefusal g = lowest (fieldCases g)
+
+unfoldable pub readRefusal : List ℕ → ℕ
+readRefusal bs = lowest (readCases bs)
+
+unfoldable pub writeRefusal : Fields → ℕ → ℕ
+writeRefusal g room = lowest (writeCases g room)
+
+unfoldable pub outputsRefusal : Fields → ℕ → List ℕ → ℕ → ℕ
+outputsRefusal g t state room = lowest (outputsCases g t state room)
+
+unfoldable pub questionRefusal : Fields → ℕ → ℕ → ℕ → ℕ
+questionRefusal g t l room = lowest (questionCases g t l room)
+
+unfoldable pub basisRefusal : Fields → ℕ → ℕ → ℕ → ℕ
+basisRefusal g t l room = lowest (basisCases g t l room)
+
+unfoldable pub reportRefusal : Fields → ℕ → ℕ
+reportRefusal g room = lowest (reportCases g room)
+
 unfoldable pub valueRefusal : ℕ → ℕ → ℕ
-valueRefusal y L = lowest ((4 if outside 1 mostOutput L) ∷ (6 if not (ltb y (2 ^ L))) ∷ [])
+valueRefusal y L = lowest (valueCases y L)

@@ -2,6 +2,7 @@
 
 // The most state bits of a generator, and the words of 64 bits that hold them.
 pub const MOST_BITS: usize = 480;
+
 pub const ROW_WORDS: usize = 8;
 
 // The work buffer: a row for each of the most state bits and one more, each with room for a set beside it.

@@ -7,7 +7,6 @@ use Rattle.theory.specs.Def.{_⊕_, xorsum}
 use Rattle.digits.specs.Def.{Word}
 
 infixl 45 _⊻_
-
 -- A generator: its k state bits, the L bits of an output, the move between two outputs, and the output of a state (000, equations 1 to 3).
 pub record Machine : Type 0 where
   pub size : ℕ
