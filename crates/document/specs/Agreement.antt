@@ -3,7 +3,7 @@ use mathlib.Core.Path.{_≡_, refl, sym, ap, _∙_}
 use mathlib.Core.Bool.{Bool, true, false, cond, true≢false}
 use mathlib.Core.List.{List}
 use mathlib.Core.Logic.{by-cases}
-use Prim.Native.Nat.{ℕ, suc, _*_, _/_, _%_, _≤_, _<_}
+use Prim.Native.Nat.{ℕ, suc, _*_, _≤_, _<_}
 use lib.Dec.{eqb}
 use native.Mathlib.Nat.{le-antisymm}
 use native.Mathlib.Decide.{decLt}
@@ -26,7 +26,7 @@ use Rattle.document.specs.Basis.{row, BasisOf}
 
 pub cell-linear : (M : Machine) → LinearMachine M → (l i : ℕ) → Linear (cellBit M l i)
 unfolding cellBit bitOf
-cell-linear M x l i = output-linear M x (i / l) (i % l)
+cell-linear M x l i = output-linear M x _ _
 
 pub machine-linear : (g : Fields) → LinearMachine (machine g)
 unfolding machine byKind

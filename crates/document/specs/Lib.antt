@@ -15,4 +15,5 @@ pub mod Agreement
 pub mod Decide
 pub mod Ranges
 pub mod Cases
+pub mod Samples
 pub mod Theorems

@@ -6,7 +6,8 @@ use mathlib.Core.Logic.{_⊎_, inl, inr, _↔_, ⊎-elim}
 use Prim.Native.Nat.{ℕ, zero, suc, _≤_, _<_}
 use native.Mathlib.Nat.{le-antisymm}
 use native.Mathlib.Omega.{arith}
-use Rattle.document.specs.Refusals.{Case, lowest}
+use Rattle.document.specs.declared.Fields.{Fields}
+use Rattle.document.specs.Refusals.{Case, lowest, readCases, writeCases, outputsCases, questionCases, basisCases, reportCases, valueCases}
 
 -- a case of the number n is given
 abbrev pub Applies : ℕ → List Case → Type 0
@@ -48,3 +49,26 @@ refused cs r n p = ⊎-elim
     (λ x. (λ e. absurd (omega (arith, x .0)), λ y. absurd (x .1 n (y .0))))
     (λ x. (λ e. (rw (← e) (x .0), λ m a. rw (← e) (x .1 m a)), λ y. le-antisymm (x .1 n (y .0)) (y .1 (lowest cs) (x .0))))
     (least 0 cs r)
+
+-- ---- the cases of each call are listed by rising numbers
+
+pub read-rises : (bs : List ℕ) → Rising 0 (readCases bs)
+read-rises bs = omega arith
+
+pub write-rises : (g : Fields) (room : ℕ) → Rising 0 (writeCases g room)
+write-rises g room = omega arith
+
+pub outputs-rises : (g : Fields) (t : ℕ) (state : List ℕ) (room : ℕ) → Rising 0 (outputsCases g t state room)
+outputs-rises g t state room = omega arith
+
+pub question-rises : (g : Fields) (t l room : ℕ) → Rising 0 (questionCases g t l room)
+question-rises g t l room = omega arith
+
+pub basis-rises : (g : Fields) (t l room : ℕ) → Rising 0 (basisCases g t l room)
+basis-rises g t l room = omega arith
+
+pub report-rises : (g : Fields) (room : ℕ) → Rising 0 (reportCases g room)
+report-rises g room = omega arith
+
+pub value-rises : (y L : ℕ) → Rising 0 (valueCases y L)
+value-rises y L = omega arith

@@ -236,4 +236,4 @@ machine-local g x =
     (λ e. let y = x .three e in
     subst LocalMachine (sym (is-three (g .kind) _ _ _ _ e)) (twisted-local _ _ _ _ _ _ _ _ _ (y .words .w-least) (y .m-most) (y .words .bits-most)))
     (λ e. let y = x .four e in
-    subst LocalMachine (sym (is-four (g .kind) _ _ _ _ e)) (mersenne-local _ _ _ _ _ _ _ _ _ _ _ _ (y .twist .m-least) (y .twist .m-most) (y .p-most) (y .twist .words .bits-most)))
+    subst LocalMachine (sym (is-four (g .kind) _ _ _ _ e)) (mersenne-local _ _ _ _ _ _ _ _ _ _ _ _ (y .twist .m-least) (y .twist .m-most) (omega (arith, y .p-most)) (y .twist .words .bits-most)))

@@ -35,25 +35,25 @@ refused-exactly = L.refused
 
 -- the cases of each call are listed by rising numbers
 pub read-rises : (bs : List ℕ) → Rising 0 (readCases bs)
-read-rises bs = omega arith
+read-rises = L.read-rises
 
 pub write-rises : (g : Fields) (room : ℕ) → Rising 0 (writeCases g room)
-write-rises g room = omega arith
+write-rises = L.write-rises
 
 pub outputs-rises : (g : Fields) (t : ℕ) (state : List ℕ) (room : ℕ) → Rising 0 (outputsCases g t state room)
-outputs-rises g t state room = omega arith
+outputs-rises = L.outputs-rises
 
 pub question-rises : (g : Fields) (t l room : ℕ) → Rising 0 (questionCases g t l room)
-question-rises g t l room = omega arith
+question-rises = L.question-rises
 
 pub basis-rises : (g : Fields) (t l room : ℕ) → Rising 0 (basisCases g t l room)
-basis-rises g t l room = omega arith
+basis-rises = L.basis-rises
 
 pub report-rises : (g : Fields) (room : ℕ) → Rising 0 (reportCases g room)
-report-rises g room = omega arith
+report-rises = L.report-rises
 
 pub value-rises : (y L : ℕ) → Rising 0 (valueCases y L)
-value-rises y L = omega arith
+value-rises = L.value-rises
 
 -- ---- the generator that the fields stand for
 

@@ -1,5 +1,6 @@
 -- The four kinds of generator. Read Generator, then Theorems; the rest are the proofs.
 pub mod Generator
+pub mod Examples
 pub mod Theorems
 pub mod Linear
 pub mod Reads

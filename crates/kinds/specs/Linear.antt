@@ -71,7 +71,7 @@ lin-join n f g = lin-cond (λ j. ltb j n) f g
 
 lin-twist : (w : ℕ) (a : Word) → Lin (twist w a)
 unfolding twist
-lin-twist w a = lin-sum (right 1) (λ x j. a j && x (w - 1)) (lin-right 1) (lin-pick a (λ j. w - 1))
+lin-twist w a = lin-sum _ _ (lin-right 1) (lin-pick a _)
 
 lin-addLeft : (w u : ℕ) (b : Word) → Lin (addLeft w u b)
 unfolding addLeft
@@ -149,5 +149,5 @@ mersenne-linear r m w p L a U S b T c Z =
 pub output-linear : (M : Machine) → LinearMachine M → (n j : ℕ) {k : ℕ} → Linear {k = k} (λ s. outputBit M n j (bit s))
 unfolding outputBit _⊻_
 output-linear M l n j s t =
-    ap (λ x. M .out (times n (M .move) x) j) (fun-ext (bit-⊞ s t))
-    ∙ ap (λ x. x j) (lin-then (M .out) (times n (M .move)) (l .out) (lin-times n (M .move) (l .move)) (bit s) (bit t))
+    ap (outputBit M n j) (fun-ext (bit-⊞ s t))
+    ∙ ap (λ x. x j) (lin-then (M .out) (times _ (M .move)) (l .out) (lin-times _ (M .move) (l .move)) (bit s) (bit t))

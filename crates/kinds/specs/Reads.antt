@@ -35,7 +35,7 @@ module _ (w : ℕ) (x y : Word) (e : Same w x y) where
 
   pub same-twist : (a b : Word) → Same w a b → 1 ≤ w → Same w (twist w a x) (twist w b y)
   unfolding twist _⊻_
-  same-twist a b f p j h = ap₂ _⊕_ (same-right 1 j h) (ap₂ _&&_ (f j h) (e (w - 1) (omega arith)))
+  same-twist a b f p j h = ap₂ _⊕_ (same-right 1 j h) (ap₂ _&&_ (f j h) (e _ (omega arith)))
 
   pub same-addLeft : (u : ℕ) (a b : Word) → Same w a b → Same w (addLeft w u a x) (addLeft w u b y)
   unfolding addLeft _⊻_ masked
@@ -159,7 +159,7 @@ mersenne-local r m w p L a U S b T c Z pm l q pl =
 
 pub output-local : (M : Machine) → LocalMachine M → (n j : ℕ) → j < M .width → (s t : Word) → Same (M .size) s t → outputBit M n j s ≡ outputBit M n j t
 unfolding outputBit
-output-local M l n j h s t e = l .out _ _ (same-times (M .size) n _ _ (l .move) s t e) j h
+output-local M l n j h s t e = l .out _ _ (same-times (M .size) _ _ _ (l .move) s t e) j h
 
 -- ---- kind 3 is kind 4 with p = 0 and right shifts by w
 
