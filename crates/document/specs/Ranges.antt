@@ -8,7 +8,7 @@ use native.Mathlib.Decide.{ℕ-discrete}
 use native.Mathlib.Omega.{arith}
 use lib.Dec.{eqb, ltb}
 use lib.ListN.{getD}
-use borrow.Author.Tests.{ltb-true, ltb-false, eq-eqb, le-ltb, not-false}
+use borrow.Author.Tests.{ltb-true, ltb-false, ne-eqb, le-ltb, not-false}
 use Rattle.theory.specs.Laws.{below-suc}
 use Rattle.digits.specs.Def.{nonzero}
 use Rattle.kinds.specs.Reads.{LocalMachine}
@@ -16,7 +16,7 @@ use Rattle.kinds.specs.Theorems.{tausworthe-local, gfsr-local, twisted-local, m
 use Rattle.document.specs.declared.Fields.{Fields}
 use Rattle.document.specs.Limits.{mostBits, mostOutput, coefficientBytes}
 use Rattle.document.specs.Generator.{byKind, coefficient, machine}
-use Rattle.document.specs.Refusals.{Case, _if_, lowest, outside, any, badKind, badWords, badSize, badBits, badShift, wideWord, coefficientPast, strayField, badValue, fieldCases}
+use Rattle.document.specs.Refusals.{Case, _if_, lowest, outside, any, badKind, badWords, badTwist, badSize, badBits, badPair, badShift, wideWord, coefficientPast, badOwn, strayField, badValue, fieldCases}
 
 -- the words of kinds 2 to 4
 pub record WordRanges (g : Fields) : Type 0 where
@@ -88,6 +88,10 @@ module _ {A : Type 0} (kind : ℕ) (a b c d : A) where
   unfolding byKind
   is-four e = rw e
 
+pub is-other : {A : Type 0} (kind : ℕ) (a b c d : A) → (kind ≡ 1 → ⊥) → (kind ≡ 2 → ⊥) → (kind ≡ 3 → ⊥) → byKind kind a b c d ≡ d
+unfolding byKind
+is-other kind a b c d x y z = rw (ne-eqb kind 1 x, ne-eqb kind 2 y, ne-eqb kind 3 z)
+
 -- ---- tests that fail
 
 pub or-none : (a b : Bool) → (a || b) ≡ false → (a ≡ false) × (b ≡ false)
@@ -140,13 +144,17 @@ all-passed g e =
     record { kind = a; size = b; bits = c; shift = d; value = f }
 
 module _ (g : Fields) (x : Passed g) where
+  own-value : badOwn g ≡ false
+  unfolding badValue
+  own-value = or-none (badOwn g) (strayField g) (x .value) .0
+
   ranges1 : g .kind ≡ 1 → Ranges1 g
-  unfolding badSize badBits badShift badValue
+  unfolding badSize badBits badShift badOwn
   ranges1 e =
       let (k₁, k₂) = inside 1 mostBits (g .k) (sym (is-one (g .kind) _ _ _ _ e) ∙ x .size) in
       let (b₁, b₂) = inside 1 mostOutput (g .bits) (ap (λ n. outside 1 n (g .bits)) (sym (is-one (g .kind) _ _ _ _ e)) ∙ x .bits) in
       let (n₁, n₂) = inside 1 255 (g .nu) (sym (is-one (g .kind) _ _ _ _ e) ∙ x .shift) in
-      let (c, _) = or-none (coefficientPast g (g .k)) (strayField g) (ap (λ b. b || strayField g) (sym (is-one (g .kind) _ _ _ _ e)) ∙ x .value) in
+      let c : coefficientPast g (g .k) ≡ false = sym (is-one (g .kind) _ _ _ _ e) ∙ own-value in
       record { k-least = k₁; k-most = k₂; bits-least = b₁; bits-most = b₂; nu-least = n₁; nu-most = n₂; past = unset g (g .k) c }
 
   -- the words of a kind whose L is bounded by w
@@ -159,18 +167,22 @@ module _ (g : Fields) (x : Passed g) where
       record { w-least = w₁; w-most = w₂; r-least = p; product = ltb-false mostBits (g .r * g .w) b; bits-least = b₁; bits-most = b₂ }
 
   ranges2 : g .kind ≡ 2 → Ranges2 g
-  unfolding badSize badBits badValue
+  unfolding badSize badBits badOwn
   ranges2 e =
       let (a, b) = or-none (badWords g) (ltb (g .r) 1) (sym (is-two (g .kind) _ _ _ _ e) ∙ x .size) in
-      let (c, _) = or-none (coefficientPast g (g .r)) (strayField g) (ap (λ b. b || strayField g) (sym (is-two (g .kind) _ _ _ _ e)) ∙ x .value) in
+      let c : coefficientPast g (g .r) ≡ false = sym (is-two (g .kind) _ _ _ _ e) ∙ own-value in
       record {
         words = word-ranges a (ltb-false (g .r) 1 b) (ap (λ n. outside 1 n (g .bits)) (sym (is-two (g .kind) _ _ _ _ e)) ∙ x .bits);
         past = unset g (g .r) c;
       }
 
-  twist-ranges : (badWords g || ltb (g .r) 2 || outside 1 (g .r - 1) (g .m)) ≡ false → outside 1 (g .w) (g .bits) ≡ false
+  pair-inside : (a b : ℕ) → badPair g a b ≡ false → (outside 1 (g .w) a ≡ false) × (outside 1 (g .w) b ≡ false)
+  unfolding badPair
+  pair-inside a b e = or-none (outside 1 (g .w) a) (outside 1 (g .w) b) e
+
+  twist-ranges : badTwist g ≡ false → outside 1 (g .w) (g .bits) ≡ false
       → outside 1 (g .w) (g .s) ≡ false → outside 1 (g .w) (g .t) ≡ false → wideWord g ≡ false → TwistRanges g
-  unfolding wideWord
+  unfolding wideWord badTwist
   twist-ranges e f hs ht hw =
       let (a, b) = or-none (badWords g || ltb (g .r) 2) (outside 1 (g .r - 1) (g .m)) e in
       let (c, d) = or-none (badWords g) (ltb (g .r) 2) a in
@@ -194,25 +206,24 @@ module _ (g : Fields) (x : Passed g) where
       }
 
   ranges3 : g .kind ≡ 3 → TwistRanges g
-  unfolding badSize badBits badShift badValue
+  unfolding badSize badBits badShift badOwn
   ranges3 e =
-      let (s, t) = or-none (outside 1 (g .w) (g .s)) (outside 1 (g .w) (g .t)) (sym (is-three (g .kind) _ _ _ _ e) ∙ x .shift) in
-      let (c, _) = or-none (wideWord g) (strayField g) (ap (λ b. b || strayField g) (sym (is-three (g .kind) _ _ _ _ e)) ∙ x .value) in
+      let (s, t) = pair-inside (g .s) (g .t) (sym (is-three (g .kind) _ _ _ _ e) ∙ x .shift) in
+      let c : wideWord g ≡ false = sym (is-three (g .kind) _ _ _ _ e) ∙ own-value in
       twist-ranges (sym (is-three (g .kind) _ _ _ _ e) ∙ x .size) (ap (λ n. outside 1 n (g .bits)) (sym (is-three (g .kind) _ _ _ _ e)) ∙ x .bits) s t c
 
   ranges4 : g .kind ≡ 4 → Ranges4 g
-  unfolding badSize badBits badShift badValue
+  unfolding badSize badBits badShift badOwn
   ranges4 e =
-      let (z, p) = or-none (badWords g || ltb (g .r) 2 || outside 1 (g .r - 1) (g .m)) (outside 0 (g .w - 1) (g .p)) (sym (is-four (g .kind) _ _ _ _ e) ∙ x .size) in
-      let (f, v) = or-none (outside 1 (g .w) (g .u) || outside 1 (g .w) (g .s) || outside 1 (g .w) (g .t)) (outside 1 (g .w) (g .v)) (sym (is-four (g .kind) _ _ _ _ e) ∙ x .shift) in
-      let (h, t) = or-none (outside 1 (g .w) (g .u) || outside 1 (g .w) (g .s)) (outside 1 (g .w) (g .t)) f in
-      let (u, s) = or-none (outside 1 (g .w) (g .u)) (outside 1 (g .w) (g .s)) h in
-      let (c, _) = or-none (wideWord g) (strayField g) (ap (λ b. b || strayField g) (sym (is-four (g .kind) _ _ _ _ e)) ∙ x .value) in
+      let (z, p) = or-none (badTwist g) (not (ltb (g .p) (g .w))) (sym (is-four (g .kind) _ _ _ _ e) ∙ x .size) in
+      let (f, h) = or-none (badPair g (g .s) (g .t)) (badPair g (g .u) (g .v)) (sym (is-four (g .kind) _ _ _ _ e) ∙ x .shift) in
+      let (s, t) = pair-inside (g .s) (g .t) f in
+      let (u, v) = pair-inside (g .u) (g .v) h in
+      let c : wideWord g ≡ false = sym (is-four (g .kind) _ _ _ _ e) ∙ own-value in
       let y : TwistRanges g = twist-ranges z (ap (λ n. outside 1 n (g .bits)) (sym (is-four (g .kind) _ _ _ _ e)) ∙ x .bits) s t c in
-      let (p₁, p₂) = inside 0 (g .w - 1) (g .p) p in
       let (u₁, u₂) = inside 1 (g .w) (g .u) u in
       let (v₁, v₂) = inside 1 (g .w) (g .v) v in
-      record { twist = y; p-most = omega (arith, y .words .w-least); u-least = u₁; u-most = u₂; v-least = v₁; v-most = v₂ }
+      record { twist = y; p-most = below (g .p) (g .w) p; u-least = u₁; u-most = u₂; v-least = v₁; v-most = v₂ }
 
 pub accepted : (g : Fields) → lowest (fieldCases g) ≡ 0 → Accepted g
 accepted g e =

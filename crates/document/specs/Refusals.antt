@@ -44,52 +44,59 @@ badKind g = outside 1 4 (g .kind)
 unfoldable pub badWords : Fields → Bool
 badWords g = outside 1 mostOutput (g .w) || ltb mostBits (g .r * g .w)
 
+unfoldable pub badTwist : Fields → Bool
+badTwist g = badWords g || ltb (g .r) 2 || outside 1 (g .r - 1) (g .m)
+
 unfoldable pub badSize : Fields → Bool
 badSize g =
     byKind (g .kind)
     (outside 1 mostBits (g .k))
     (badWords g || ltb (g .r) 1)
-    (badWords g || ltb (g .r) 2 || outside 1 (g .r - 1) (g .m))
-    (badWords g || ltb (g .r) 2 || outside 1 (g .r - 1) (g .m) || outside 0 (g .w - 1) (g .p))
+    (badTwist g)
+    (badTwist g || not (ltb (g .p) (g .w)))
 
 -- 4: L out of range
 unfoldable pub badBits : Fields → Bool
 badBits g = outside 1 (byKind (g .kind) mostOutput (g .w) (g .w) (g .w)) (g .bits)
 
 -- 5: ν or a shift out of range
+unfoldable pub badPair : Fields → ℕ → ℕ → Bool
+badPair g x y = outside 1 (g .w) x || outside 1 (g .w) y
+
 unfoldable pub badShift : Fields → Bool
 badShift g =
     byKind (g .kind)
     (outside 1 255 (g .nu))
     false
-    (outside 1 (g .w) (g .s) || outside 1 (g .w) (g .t))
-    (outside 1 (g .w) (g .u) || outside 1 (g .w) (g .s) || outside 1 (g .w) (g .t) || outside 1 (g .w) (g .v))
+    (badPair g (g .s) (g .t))
+    (badPair g (g .s) (g .t) || badPair g (g .u) (g .v))
 
 -- 6: a, b or c not below 2^w
 unfoldable pub wideWord : Fields → Bool
 wideWord g = not (ltb (g .a) (2 ^ g .w)) || not (ltb (g .b) (2 ^ g .w)) || not (ltb (g .c) (2 ^ g .w))
 
+-- the fields of kinds 3 and 4 that kinds 1 and 2 haven't got
+unfoldable pub strayTwist : Fields → Bool
+strayTwist g = nonzero (g .p) || nonzero (g .a) || nonzero (g .u) || nonzero (g .s) || nonzero (g .b) || nonzero (g .t) || nonzero (g .c) || nonzero (g .v)
+
 -- 6: a coefficient past a_n set
 unfoldable pub coefficientPast : Fields → ℕ → Bool
 coefficientPast g n = any (8 * coefficientBytes) (λ i. not (ltb i n) && coefficient g i)
+
+unfoldable pub badOwn : Fields → Bool
+badOwn g = byKind (g .kind) (coefficientPast g (g .k)) (coefficientPast g (g .r)) (wideWord g) (wideWord g)
 
 -- 6: a field the kind hasn't got is not zero
 unfoldable pub strayField : Fields → Bool
 strayField g =
     byKind (g .kind)
-    (nonzero (g .r) || nonzero (g .m) || nonzero (g .w) || nonzero (g .p) || nonzero (g .a) || nonzero (g .u) || nonzero (g .s) || nonzero (g .b) || nonzero (g .t) || nonzero (g .c) || nonzero (g .v))
-    (nonzero (g .k) || nonzero (g .nu) || nonzero (g .m) || nonzero (g .p) || nonzero (g .a) || nonzero (g .u) || nonzero (g .s) || nonzero (g .b) || nonzero (g .t) || nonzero (g .c) || nonzero (g .v))
-    (nonzero (g .k) || nonzero (g .nu) || nonzero (g .p) || nonzero (g .u) || nonzero (g .v) || any coefficientBytes (λ i. nonzero (getD (g .coefficients) i 0)))
-    (nonzero (g .k) || nonzero (g .nu) || any coefficientBytes (λ i. nonzero (getD (g .coefficients) i 0)))
+    (nonzero (g .r) || nonzero (g .m) || nonzero (g .w) || strayTwist g)
+    (nonzero (g .k) || nonzero (g .nu) || nonzero (g .m) || strayTwist g)
+    (nonzero (g .k) || nonzero (g .nu) || nonzero (g .p) || nonzero (g .u) || nonzero (g .v) || coefficientPast g 0)
+    (nonzero (g .k) || nonzero (g .nu) || coefficientPast g 0)
 
 unfoldable pub badValue : Fields → Bool
-badValue g =
-    byKind (g .kind)
-    (coefficientPast g (g .k))
-    (coefficientPast g (g .r))
-    (wideWord g)
-    (wideWord g)
-    || strayField g
+badValue g = badOwn g || strayField g
 
 -- the rows "all" but the first, and all of them
 abbrev pub rangeCases : Fields → List Case
@@ -138,6 +145,9 @@ abbrev pub valueCases : ℕ → ℕ → List Case
 valueCases y L = (4 if outside 1 mostOutput L) ∷ (6 if not (ltb y (2 ^ L))) ∷ []
 
 -- ---- what each call answers
+
+unfoldable pub rangeRefusal : Fields → ℕ
+rangeRefusal g = lowest (rangeCases g)
 
 unfoldable pub fieldRefusal : Fields → ℕ
 fieldRefusal g = lowest (fieldCases g)
