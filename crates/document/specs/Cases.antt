@@ -14,7 +14,7 @@ use Rattle.document.specs.declared.Fields.{Fields}
 use Rattle.document.specs.Limits.{workWords}
 use Rattle.document.specs.Generator.{byKind, machine, coefficient}
 use Rattle.document.specs.Description.{number, fieldsOf}
-use Rattle.document.specs.Refusals.{lowest, outside, any, badWords, badTwist, badSize, badBits, badPair, badShift, wideWord, strayTwist, coefficientPast, badOwn, strayField, badValue, readRefusal, questionRefusal, basisRefusal, valueRefusal}
+use Rattle.document.specs.Refusals.{lowest, outside, any, badWords, badTwist, badSize, badBits, badPair, badShift, wideWord, oneSet, strayOne, strayTwist, coefficientPast, badOwn, strayField, badValue, readRefusal, questionRefusal, basisRefusal, valueRefusal}
 use Rattle.document.specs.Cells.{bitOf, cellBit, isYes, Answer}
 use Rattle.document.specs.Basis.{row, BasisOf}
 use Rattle.document.specs.Report.{largest, total, mostResolution, resolution, mostDimension, dimension, resolutionGap, dimensionGap, resolutionSum, dimensionSum, isME}
@@ -160,7 +160,7 @@ cases-right (c ∷ cs) e = (case-right c (and-true-l _ (every-case cs) e), cases
 computed : every-case table ≡ true
 unfolding table G two three four setOf holds all-hold right-case every-case xorsum unit bit every agree hits evenly count digit numberOf wordOf bitsOf
     times outputBit _⊻_ masked right left join twist addLeft addRight temper3 temper4 nextBit stepped word enter next2 next3 next4 tausworthe gfsr twisted mersenne
-    byKind machine coefficient fieldsOf number lowest outside any badWords badTwist badSize badBits badPair badShift wideWord strayTwist coefficientPast badOwn strayField badValue
+    byKind machine coefficient fieldsOf number lowest outside any badWords badTwist badSize badBits badPair badShift wideWord oneSet strayOne strayTwist coefficientPast badOwn strayField badValue
     readRefusal questionRefusal basisRefusal valueRefusal bitOf cellBit isYes row largest total mostResolution resolution mostDimension dimension
     resolutionGap dimensionGap resolutionSum dimensionSum isME highest fields64 valueBits saysNo isSum firstOf wellLed covering all
 computed = refl

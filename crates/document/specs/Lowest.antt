@@ -7,7 +7,7 @@ use Prim.Native.Nat.{ℕ, zero, suc, _≤_, _<_}
 use native.Mathlib.Nat.{le-antisymm}
 use native.Mathlib.Omega.{arith}
 use Rattle.document.specs.declared.Fields.{Fields}
-use Rattle.document.specs.Refusals.{Case, lowest, readCases, writeCases, outputsCases, questionCases, basisCases, reportCases, valueCases}
+use Rattle.document.specs.Refusals.{Case, _if_, lowest, readCases, writeCases, outputsCases, questionCases, basisCases, reportCases, valueCases}
 
 -- a case of the number n is given
 abbrev pub Applies : ℕ → List Case → Type 0
@@ -72,3 +72,36 @@ report-rises g room = omega arith
 
 pub value-rises : (y L : ℕ) → Rising 0 (valueCases y L)
 value-rises y L = omega arith
+
+-- ---- a chain of tests, each a call's answer
+
+pub gives : (n : ℕ) (b r : Bool) (cs : List Case) → r ≡ b → r ≡ true → n ≡ lowest ((n if b) ∷ cs)
+unfolding lowest
+gives n b r cs e f = sym (ap (λ x. cond x n (lowest cs)) (sym e ∙ f))
+
+pub skips : (x n : ℕ) (b r : Bool) (cs : List Case) → r ≡ b → r ≡ false → x ≡ lowest cs → x ≡ lowest ((n if b) ∷ cs)
+unfolding lowest
+skips x n b r cs e f g = g ∙ sym (ap (λ y. cond y n (lowest cs)) (sym e ∙ f))
+
+-- one chain after another
+pub first-of : (cs ds : List Case) (n : ℕ) → lowest cs ≡ n → (n ≡ 0 → ⊥) → n ≡ lowest (cs ++ ds)
+unfolding lowest
+first-of [] ds n e z = absurd (z (sym e))
+first-of (c ∷ cs) ds n e z = go (c .given) e (λ h. first-of cs ds n h z)
+  where
+    go : (b : Bool) → cond b (c .number) (lowest cs) ≡ n → (lowest cs ≡ n → n ≡ lowest (cs ++ ds)) → n ≡ cond b (c .number) (lowest (cs ++ ds))
+    go true h rest = sym h
+    go false h rest = rest h
+
+pub then-of : (m : ℕ) (cs ds : List Case) (x : ℕ) → Rising m cs → lowest cs ≡ 0 → x ≡ lowest ds → x ≡ lowest (cs ++ ds)
+unfolding lowest
+then-of m [] ds x r e f = f
+then-of m (c ∷ cs) ds x (l, r) e f = go (c .given) e (λ h. then-of (c .number) cs ds x r h f)
+  where
+    go : (b : Bool) → cond b (c .number) (lowest cs) ≡ 0 → (lowest cs ≡ 0 → x ≡ lowest (cs ++ ds)) → x ≡ cond b (c .number) (lowest (cs ++ ds))
+    go true h rest = absurd (omega (arith, h))
+    go false h rest = rest h
+
+pub none-left : 0 ≡ lowest []
+unfolding lowest
+none-left = refl

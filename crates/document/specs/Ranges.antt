@@ -184,14 +184,14 @@ module _ (g : Fields) (x : Passed g) where
       → outside 1 (g .w) (g .s) ≡ false → outside 1 (g .w) (g .t) ≡ false → wideWord g ≡ false → TwistRanges g
   unfolding wideWord badTwist
   twist-ranges e f hs ht hw =
-      let (a, b) = or-none (badWords g || ltb (g .r) 2) (outside 1 (g .r - 1) (g .m)) e in
-      let (c, d) = or-none (badWords g) (ltb (g .r) 2) a in
+      let (c, a) = or-none (badWords g) (ltb (g .r) 2 || outside 1 (g .r - 1) (g .m)) e in
+      let (d, b) = or-none (ltb (g .r) 2) (outside 1 (g .r - 1) (g .m)) a in
       let two : 2 ≤ g .r = ltb-false (g .r) 2 d in
       let (m₁, m₂) = inside 1 (g .r - 1) (g .m) b in
       let (s₁, s₂) = inside 1 (g .w) (g .s) hs in
       let (t₁, t₂) = inside 1 (g .w) (g .t) ht in
-      let (p, q) = or-none (not (ltb (g .a) (2 ^ g .w)) || not (ltb (g .b) (2 ^ g .w))) (not (ltb (g .c) (2 ^ g .w))) hw in
-      let (u, v) = or-none (not (ltb (g .a) (2 ^ g .w))) (not (ltb (g .b) (2 ^ g .w))) p in
+      let (u, p) = or-none (not (ltb (g .a) (2 ^ g .w))) (not (ltb (g .b) (2 ^ g .w)) || not (ltb (g .c) (2 ^ g .w))) hw in
+      let (v, q) = or-none (not (ltb (g .b) (2 ^ g .w))) (not (ltb (g .c) (2 ^ g .w))) p in
       record {
         words = word-ranges c (omega arith) f;
         m-least = m₁;

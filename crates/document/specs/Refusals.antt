@@ -45,7 +45,7 @@ unfoldable pub badWords : Fields → Bool
 badWords g = outside 1 mostOutput (g .w) || ltb mostBits (g .r * g .w)
 
 unfoldable pub badTwist : Fields → Bool
-badTwist g = badWords g || ltb (g .r) 2 || outside 1 (g .r - 1) (g .m)
+badTwist g = badWords g || (ltb (g .r) 2 || outside 1 (g .r - 1) (g .m))
 
 unfoldable pub badSize : Fields → Bool
 badSize g =
@@ -73,11 +73,7 @@ badShift g =
 
 -- 6: a, b or c not below 2^w
 unfoldable pub wideWord : Fields → Bool
-wideWord g = not (ltb (g .a) (2 ^ g .w)) || not (ltb (g .b) (2 ^ g .w)) || not (ltb (g .c) (2 ^ g .w))
-
--- the fields of kinds 3 and 4 that kinds 1 and 2 haven't got
-unfoldable pub strayTwist : Fields → Bool
-strayTwist g = nonzero (g .p) || nonzero (g .a) || nonzero (g .u) || nonzero (g .s) || nonzero (g .b) || nonzero (g .t) || nonzero (g .c) || nonzero (g .v)
+wideWord g = not (ltb (g .a) (2 ^ g .w)) || (not (ltb (g .b) (2 ^ g .w)) || not (ltb (g .c) (2 ^ g .w)))
 
 -- 6: a coefficient past a_n set
 unfoldable pub coefficientPast : Fields → ℕ → Bool
@@ -86,14 +82,23 @@ coefficientPast g n = any (8 * coefficientBytes) (λ i. not (ltb i n) && coeffic
 unfoldable pub badOwn : Fields → Bool
 badOwn g = byKind (g .kind) (coefficientPast g (g .k)) (coefficientPast g (g .r)) (wideWord g) (wideWord g)
 
--- 6: a field the kind hasn't got is not zero
+-- 6: a field the kind hasn't got is not zero. First the fields of kind 1, and of kinds 3 and 4, alone.
+unfoldable pub oneSet : ℕ → ℕ → Bool
+oneSet x y = nonzero x || nonzero y
+
+unfoldable pub strayOne : Fields → Bool
+strayOne g = nonzero (g .k) || nonzero (g .nu)
+
+unfoldable pub strayTwist : Fields → Bool
+strayTwist g = oneSet (g .a) (g .b) || (nonzero (g .c) || (nonzero (g .p) || (oneSet (g .u) (g .v) || oneSet (g .s) (g .t))))
+
 unfoldable pub strayField : Fields → Bool
 strayField g =
     byKind (g .kind)
-    (nonzero (g .r) || nonzero (g .m) || nonzero (g .w) || strayTwist g)
-    (nonzero (g .k) || nonzero (g .nu) || nonzero (g .m) || strayTwist g)
-    (nonzero (g .k) || nonzero (g .nu) || nonzero (g .p) || nonzero (g .u) || nonzero (g .v) || coefficientPast g 0)
-    (nonzero (g .k) || nonzero (g .nu) || coefficientPast g 0)
+    (nonzero (g .r) || (nonzero (g .m) || (nonzero (g .w) || strayTwist g)))
+    (strayOne g || (nonzero (g .m) || strayTwist g))
+    (strayOne g || (nonzero (g .p) || (oneSet (g .u) (g .v) || coefficientPast g 0)))
+    (strayOne g || coefficientPast g 0)
 
 unfoldable pub badValue : Fields → Bool
 badValue g = badOwn g || strayField g

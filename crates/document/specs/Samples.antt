@@ -9,7 +9,7 @@ use Rattle.digits.specs.Def.{digit, bitsOf, wordOf, numberOf}
 use Rattle.kinds.specs.Generator.{times, outputBit, _⊻_, masked, right, left, join, twist, addLeft, addRight, temper3, temper4, nextBit, stepped, word, enter, next2, next3, next4, tausworthe, gfsr, twisted, mersenne}
 use Rattle.document.specs.Generator.{byKind, coefficient, machine}
 use Rattle.document.specs.Description.{bytes, number, fieldsOf, description}
-use Rattle.document.specs.Refusals.{lowest, outside, any, badWords, badTwist, badSize, badBits, badPair, badShift, wideWord, strayTwist, coefficientPast, badOwn, strayField, badValue, readRefusal}
+use Rattle.document.specs.Refusals.{lowest, outside, any, badWords, badTwist, badSize, badBits, badPair, badShift, wideWord, oneSet, strayOne, strayTwist, coefficientPast, badOwn, strayField, badValue, readRefusal}
 use Rattle.document.specs.Outputs.{output}
 
 -- the outputs n, n + 1, .. from a start state in one word
@@ -43,7 +43,7 @@ pub runs : (ran one 19 5 ++ ran two 22222 8) ++ (ran three 22222 8 ++ ran four 5
     ++ ((0 ∷ 15 ∷ 15 ∷ 13 ∷ 5 ∷ 1 ∷ 10 ∷ 13 ∷ 3 ∷ 0 ∷ []) ++ (0 ∷ 13 ∷ 13 ∷ 18 ∷ 28 ∷ 31 ∷ 20 ∷ 28 ∷ 24 ∷ 10 ∷ []))
 unfolding ran outputsFrom one two three four xorsum digit bitsOf wordOf numberOf
     times outputBit _⊻_ masked right left join twist addLeft addRight temper3 temper4 nextBit stepped word enter next2 next3 next4 tausworthe gfsr twisted mersenne
-    byKind coefficient machine number fieldsOf lowest outside any badWords badTwist badSize badBits badPair badShift wideWord strayTwist coefficientPast badOwn strayField badValue readRefusal output
+    byKind coefficient machine number fieldsOf lowest outside any badWords badTwist badSize badBits badPair badShift wideWord oneSet strayOne strayTwist coefficientPast badOwn strayField badValue readRefusal output
 runs = refl
 
 -- written, the same bytes
