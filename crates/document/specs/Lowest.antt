@@ -7,7 +7,7 @@ use Prim.Native.Nat.{ℕ, zero, suc, _≤_, _<_}
 use native.Mathlib.Nat.{le-antisymm}
 use native.Mathlib.Omega.{arith}
 use Rattle.document.specs.declared.Fields.{Fields}
-use Rattle.document.specs.Refusals.{Case, _if_, lowest, readCases, writeCases, outputsCases, questionCases, basisCases, reportCases, valueCases}
+use Rattle.document.specs.Refusals.{Case, _if_, lowest, fieldCases, readCases, writeCases, outputsCases, questionCases, basisCases, reportCases, valueCases}
 
 -- a case of the number n is given
 abbrev pub Applies : ℕ → List Case → Type 0
@@ -51,6 +51,9 @@ refused cs r n p = ⊎-elim
     (least 0 cs r)
 
 -- ---- the cases of each call are listed by rising numbers
+
+pub field-rises : (g : Fields) → Rising 0 (fieldCases g)
+field-rises g = omega arith
 
 pub read-rises : (bs : List ℕ) → Rising 0 (readCases bs)
 read-rises bs = omega arith
@@ -105,3 +108,14 @@ then-of m (c ∷ cs) ds x (l, r) e f = go (c .given) e (λ h. then-of (c .number
 pub none-left : 0 ≡ lowest []
 unfolding lowest
 none-left = refl
+
+-- where no case of two chains is given, none of either is
+pub after : (m : ℕ) (cs ds : List Case) → Rising m cs → lowest (cs ++ ds) ≡ 0 → (lowest cs ≡ 0) × (lowest ds ≡ 0)
+unfolding lowest
+after m [] ds r e = (refl, e)
+after m (c ∷ cs) ds (l, r) e = go (c .given) e (after (c .number) cs ds r)
+  where
+    go : (b : Bool) → cond b (c .number) (lowest (cs ++ ds)) ≡ 0 → (lowest (cs ++ ds) ≡ 0 → (lowest cs ≡ 0) × (lowest ds ≡ 0))
+        → (cond b (c .number) (lowest cs) ≡ 0) × (lowest ds ≡ 0)
+    go true h rest = absurd (omega (arith, h))
+    go false h rest = rest h
