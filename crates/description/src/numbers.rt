@@ -46,17 +46,29 @@ pub fn coefficients(bytes: &[u8]) -> [u8; COEFFICIENT_BYTES]
     r
 }
 
-// The byte of x that is worth 256^n, for n from 0 to 3.
-pub fn byte0(x: u32) -> u8
+// The bytes of a number: of one byte, of two, of four.
+pub fn byte(x: u8) -> u8
+    ensures { λ r. ⌜ r ≡ x / 256 ^ 0 % 256 ⌝ }
+{
+    x
+}
+
+pub fn high(x: u16) -> u8
+    ensures { λ r. ⌜ r ≡ x / 256 ^ 1 % 256 ⌝ }
+{
+    (x / 256 % 256) as u8
+}
+
+pub fn low(x: u16) -> u8
     ensures { λ r. ⌜ r ≡ x / 256 ^ 0 % 256 ⌝ }
 {
     (x % 256) as u8
 }
 
-pub fn byte1(x: u32) -> u8
-    ensures { λ r. ⌜ r ≡ x / 256 ^ 1 % 256 ⌝ }
+pub fn byte3(x: u32) -> u8
+    ensures { λ r. ⌜ r ≡ x / 256 ^ 3 % 256 ⌝ }
 {
-    (x / 256 % 256) as u8
+    (x / 16777216 % 256) as u8
 }
 
 pub fn byte2(x: u32) -> u8
@@ -65,8 +77,14 @@ pub fn byte2(x: u32) -> u8
     (x / 65536 % 256) as u8
 }
 
-pub fn byte3(x: u32) -> u8
-    ensures { λ r. ⌜ r ≡ x / 256 ^ 3 % 256 ⌝ }
+pub fn byte1(x: u32) -> u8
+    ensures { λ r. ⌜ r ≡ x / 256 ^ 1 % 256 ⌝ }
 {
-    (x / 16777216 % 256) as u8
+    (x / 256 % 256) as u8
+}
+
+pub fn byte0(x: u32) -> u8
+    ensures { λ r. ⌜ r ≡ x / 256 ^ 0 % 256 ⌝ }
+{
+    (x % 256) as u8
 }

@@ -7,10 +7,13 @@ ghost use Rattle.document.specs.Limits.{coefficientBytes};
 ghost use Rattle.document.specs.Description.{bytes, lengthOf, description};
 ghost use Rattle.document.specs.Refusals.{writeRefusal};
 ghost use Rattle.description.specs.Promises.{WrittenAs};
+use crate::numbers::byte;
 use crate::numbers::byte0;
 use crate::numbers::byte1;
 use crate::numbers::byte2;
 use crate::numbers::byte3;
+use crate::numbers::high;
+use crate::numbers::low;
 use document::COEFFICIENT_BYTES;
 use document::Fields;
 use fields::field_refusal;
@@ -37,10 +40,10 @@ fn head(kind: u8, size: u16, first: u8, second: u8) -> [u8; 5]
 {
     [
         kind,
-        byte1(size as u32),
-        byte0(size as u32),
-        byte0(first as u32),
-        byte0(second as u32),
+        high(size),
+        low(size),
+        byte(first),
+        byte(second),
     ]
 }
 
@@ -51,18 +54,18 @@ fn twisted(g: Fields) -> [u8; 21]
 {
     [
         g.kind,
-        byte1(g.r as u32),
-        byte0(g.r as u32),
-        byte1(g.m as u32),
-        byte0(g.m as u32),
-        byte0(g.w as u32),
-        byte0(g.bits as u32),
+        high(g.r),
+        low(g.r),
+        high(g.m),
+        low(g.m),
+        byte(g.w),
+        byte(g.bits),
         byte3(g.a),
         byte2(g.a),
         byte1(g.a),
         byte0(g.a),
-        byte0(g.s as u32),
-        byte0(g.t as u32),
+        byte(g.s),
+        byte(g.t),
         byte3(g.b),
         byte2(g.b),
         byte1(g.b),
@@ -79,32 +82,31 @@ fn mersenne(g: Fields) -> [u8; 24]
     requires { ⌜ g .kind ≡ 4 ⌝ }
     ensures { λ r. ⌜ r ≡ description g ⌝ }
 {
-    let last = byte0(g.v as u32);
     [
         g.kind,
-        byte1(g.r as u32),
-        byte0(g.r as u32),
-        byte1(g.m as u32),
-        byte0(g.m as u32),
-        byte0(g.w as u32),
-        byte0(g.p as u32),
-        byte0(g.bits as u32),
+        high(g.r),
+        low(g.r),
+        high(g.m),
+        low(g.m),
+        byte(g.w),
+        byte(g.p),
+        byte(g.bits),
         byte3(g.a),
         byte2(g.a),
         byte1(g.a),
         byte0(g.a),
-        byte0(g.u as u32),
-        byte0(g.s as u32),
+        byte(g.u),
+        byte(g.s),
         byte3(g.b),
         byte2(g.b),
         byte1(g.b),
         byte0(g.b),
-        byte0(g.t as u32),
+        byte(g.t),
         byte3(g.c),
         byte2(g.c),
         byte1(g.c),
         byte0(g.c),
-        last,
+        byte(g.v),
     ]
 }
 
