@@ -38,13 +38,7 @@ pub fn length_of(kind: u8) -> usize
 fn head(kind: u8, size: u16, first: u8, second: u8) -> [u8; 5]
     ensures { λ r. ⌜ r ≡ kind ∷ (bytes 2 size ++ (bytes 1 first ++ bytes 1 second)) ⌝ }
 {
-    [
-        kind,
-        high(size),
-        low(size),
-        byte(first),
-        byte(second),
-    ]
+    [kind, high(size), low(size), byte(first), byte(second)]
 }
 
 // The bytes of a generator of kind 3.

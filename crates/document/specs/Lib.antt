@@ -10,6 +10,7 @@ pub mod Cells
 pub mod Basis
 pub mod Report
 pub mod Value
+pub mod Largest
 pub mod Lowest
 pub mod Agreement
 pub mod Decide
