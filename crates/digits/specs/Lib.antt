@@ -2,3 +2,4 @@
 pub mod Def
 pub mod Laws
 pub mod Parity
+pub mod Lowest

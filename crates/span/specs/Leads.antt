@@ -1,5 +1,5 @@
 -- Rows with leading bits of their own: none of them is in a sum that is zero, and so the rows that they were made from are independent.
-use mathlib.Core.Path.{_≡_, refl, sym, ap, ap₂, _∙_}
+use mathlib.Core.Path.{_≡_, refl, sym, ap, _∙_}
 use mathlib.Core.Bool.{Bool, true, false, _&&_, cond, false≢true, and-false, and-true}
 use mathlib.Core.Logic.{by-cases}
 use native.Mathlib.Decide.{decLt, ℕ-discrete}
@@ -8,11 +8,11 @@ use native.Mathlib.Omega.{arith}
 use lib.Dec.{ltb}
 use borrow.Author.Tests.{lt-ltb, le-ltb}
 use Rattle.theory.specs.Def.{_⊕_, xorsum, Spanned}
-use Rattle.theory.specs.Laws.{⊕-and, xor-ac, below-suc, put, put-at, xorsum-⊕, xorsum-cong, xorsum-pick}
+use Rattle.theory.specs.Laws.{⊕-and, xor-ac, put, put-at, xorsum-⊕, xorsum-cong, xorsum-pick}
 use Rattle.theory.specs.Sums.{xorsum-scale, xorsum-put}
 use Rattle.digits.specs.Def.{Word}
 use Rattle.span.specs.Def.{DependentRows, IndependentRows, Zero, Plus, Made, Leading, Slotted, Eliminated}
-use Rattle.span.specs.Spans.{spanned-row, spanned-same, spanned-add, spanned-through, spanned-more, spanned-sum, plus-same, plus-fewer}
+use Rattle.span.specs.Spans.{spanned-row, spanned-same, spanned-add, spanned-more, spanned-sum, plus-same, plus-fewer}
 
 -- ---- a sum of old rows is a sum of new rows, with the same last coefficient
 
@@ -151,16 +151,25 @@ slotted-same new e x =
       taken = x .taken;
     }
 
+pub eliminated-same : {L W n : ℕ} {old row : ℕ → Word} {slot : ℕ → ℕ} (new : ℕ → Word) → L ≤ W → ((p : ℕ) → p < n → (i : ℕ) → i < W → new p i ≡ row p i)
+    → Eliminated L W n n old row slot → Eliminated L W n n old new slot
+eliminated-same {old = old} {row = row} new lw e x =
+    record {
+      made = λ p h. plus-same new (old p) (old p) (row p) (new p) (λ q k. e q (omega arith)) (λ _ _. refl) (e p h) (x .made p h);
+      slotted = slotted-same new (λ p h i l. e p h i (omega arith)) (x .slotted);
+    }
+
 -- row n is made, and the rows before it are as they were
 pub eliminated-row : {L W n : ℕ} {old row : ℕ → Word} {slot : ℕ → ℕ} (new : ℕ → Word) → L ≤ W → ((p : ℕ) → p < n → (i : ℕ) → i < W → new p i ≡ row p i)
     → Eliminated L W n n old row slot → Plus W n row (old n) (new n) → Eliminated L W n (n + 1) old new slot
 eliminated-row {n = n} {old = old} {row = row} new lw e x y =
+    let z = eliminated-same new lw e x in
     record {
       made = λ p h.
           by-cases (decLt p n)
-          (λ l. plus-same new (old p) (old p) (row p) (new p) (λ q k. e q (omega arith)) (λ _ _. refl) (e p l) (x .made p l))
+          (λ l. z .made p l)
           (λ g. let q : p ≡ n = omega arith in rw q (plus-same new (old n) (old n) (new n) (new n) e (λ _ _. refl) (λ _ _. refl) y));
-      slotted = slotted-same new (λ p h i l. e p h i (omega arith)) (x .slotted);
+      slotted = z .slotted;
     }
 
 -- f below n, and b from n on

@@ -1,11 +1,11 @@
 -- Rows that stand for output bits: a set of rows adds up to zero just where the set of output bits is dependent.
-use mathlib.Core.Path.{_≡_, refl, sym, ap, ap₂, _∙_}
-use mathlib.Core.Bool.{Bool, true, false, _&&_, and-false}
+use mathlib.Core.Path.{_≡_, refl, sym, _∙_}
+use mathlib.Core.Bool.{Bool, _&&_, and-false}
 use mathlib.Core.Logic.{by-cases}
 use native.Mathlib.Decide.{decLt}
-use Prim.Native.Nat.{ℕ, zero, suc, _+_, _≤_, _<_}
+use Prim.Native.Nat.{ℕ, zero, suc, _≤_, _<_}
 use native.Mathlib.Omega.{arith}
-use Rattle.theory.specs.Def.{_⊕_, xorsum, unit, pair, Bits, bit, tabulate, Linear, Equidistributed, Dependent, Independent}
+use Rattle.theory.specs.Def.{xorsum, unit, pair, Bits, bit, tabulate, Linear, Equidistributed, Dependent, Independent}
 use Rattle.theory.specs.Laws.{bit-tabulate, xorsum-cong, xorsum-none}
 use Rattle.theory.specs.Sums.{pair-rows, pair-none, pair-same, pair-unit}
 use Rattle.theory.specs.Theorems as Machine

@@ -1,9 +1,9 @@
 -- Rows that carry sets: elimination adds the sets as it adds the rows, so that a row is, all the way, the sum of the rows that its set names.
-use mathlib.Core.Path.{_≡_, refl, sym, ap, ap₂, _∙_}
+use mathlib.Core.Path.{_≡_, sym, ap₂, _∙_}
 use mathlib.Core.Bool.{Bool, true, false, _&&_}
 use mathlib.Core.Logic.{by-cases}
 use native.Mathlib.Decide.{decLt}
-use Prim.Native.Nat.{ℕ, zero, suc, _+_, _-_, _≤_, _<_}
+use Prim.Native.Nat.{ℕ, zero, suc, _+_, _≤_, _<_}
 use native.Mathlib.Omega.{arith}
 use Rattle.theory.specs.Def.{_⊕_, xorsum, unit}
 use Rattle.theory.specs.Laws.{⊕-assoc, ⊕-false, ⊕-and, xorsum-⊕, xorsum-cong, xorsum-pick}

@@ -1,7 +1,7 @@
 -- Sums of rows: laws of `Spanned` and `Plus`.
 use mathlib.Core.Path.{_≡_, refl, sym, ap, ap₂, _∙_}
 use mathlib.Core.Bool.{Bool, true, false, _&&_, and-false}
-use Prim.Native.Nat.{ℕ, zero, suc, _+_, _≤_, _<_}
+use Prim.Native.Nat.{ℕ, zero, suc, _≤_, _<_}
 use native.Mathlib.Omega.{arith}
 use Rattle.theory.specs.Def.{_⊕_, xorsum, unit, Spanned}
 use Rattle.theory.specs.Laws.{⊕-false, ⊕-and, ⊕-assoc, xorsum-⊕, xorsum-cong, xorsum-none, xorsum-pick}

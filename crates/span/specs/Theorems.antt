@@ -2,7 +2,7 @@
 use mathlib.Core.Path.{_≡_}
 use mathlib.Core.Bool.{Bool, false}
 use Prim.Native.Nat.{ℕ, _+_, _≤_, _<_}
-use Rattle.theory.specs.Def.{Bits, Linear, Equidistributed, Dependent, Spanned, Reduced}
+use Rattle.theory.specs.Def.{Bits, Linear, Equidistributed, Dependent, Reduced}
 use Rattle.digits.specs.Def.{Word}
 use Rattle.span.specs.Def.{DependentRows, IndependentRows, Zero, Eliminated, Tagged, Reducing, RowsOf, FirstSet}
 use Rattle.span.specs.Leads
