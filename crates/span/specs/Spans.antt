@@ -5,7 +5,7 @@ use Prim.Native.Nat.{ℕ, zero, suc, _≤_, _<_}
 use native.Mathlib.Omega.{arith}
 use Rattle.theory.specs.Def.{_⊕_, xorsum, unit, Spanned}
 use Rattle.theory.specs.Laws.{⊕-false, ⊕-and, ⊕-assoc, xorsum-⊕, xorsum-cong, xorsum-none, xorsum-pick}
-use Rattle.theory.specs.Sums.{unit-at, unit-other}
+use Rattle.theory.specs.Sums.{xorsum-cut, unit-at, unit-other}
 use Rattle.digits.specs.Def.{Word}
 use Rattle.span.specs.Def.{Plus}
 
@@ -59,6 +59,15 @@ spanned-more {m = m} {row = row} v h x = spanned-through m row v (λ p l. spanne
 
 pub spanned-fewer : {W k n : ℕ} {row : ℕ → Word} {v : Word} → k ≤ W → Spanned W n row v → Spanned k n row v
 spanned-fewer h x = record { chosen = x .chosen; sum = λ i l. x .sum i (omega arith) }
+
+-- the rows from m on are zero
+pub spanned-cut : {k m n : ℕ} {row : ℕ → Word} (v : Word) → m ≤ n → ((q : ℕ) → m ≤ q → q < n → (i : ℕ) → i < k → row q i ≡ false)
+    → Spanned k n row v → Spanned k m row v
+spanned-cut {m = m} {n = n} {row = row} v h z x =
+    record {
+      chosen = x .chosen;
+      sum = λ i l. x .sum i l ∙ xorsum-cut m n (λ p. x .chosen p && row p i) h (λ p g q. rw (z p g q i l) (and-false (x .chosen p)));
+    }
 
 -- ---- a row with rows added
 

@@ -1,0 +1,34 @@
+-- `reduction::bring_row` meets its contract.
+use mathlib.Core.Path.{sym}
+use borrow.Author.Needs.{needs}
+use Rattle.elimination.proofs.Words.{apart-rows}
+use Rattle.reduction.proofs.Columns.{brought-same, brought-add}
+use Rattle.reduction.proofs.bring_row.Statement.{statement}
+use Rattle.reduction.proofs.bring_row.Tie as tie
+
+mul-add-words : tie.Need-mul-add-words
+mul-add-words c = search needs
+
+mul-add-words-2 : tie.Need-mul-add-words-2
+mul-add-words-2 c = search needs
+
+add-words-requires : tie.Need-add-words-requires
+add-words-requires c κs =
+    let s = c .before .before .before in
+    (s .pre .1, s .pre .2, apart-rows _ _ _ _ (λ e. c .before .if1 .taken (sym e)) (s .pre .0))
+
+same-length : tie.Need-same-length
+same-length c = search needs
+
+returns : tie.Need-returns
+returns c =
+    let a = c .before .before in
+    brought-add _ _ _ _ _ _ (a .before .before .if1 .taken) (a .add-words .ensures)
+
+returns-2 : tie.Need-returns-2
+returns-2 c = brought-same _ _ _ _ _ (c .if1 .left)
+
+pub bring-row-spec : {M : Type 1} → statement M
+bring-row-spec =
+    tie.close
+    (tie.spec mul-add-words mul-add-words-2 add-words-requires same-length returns returns-2)
