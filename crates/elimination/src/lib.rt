@@ -149,7 +149,7 @@ pub fn eliminate(
 
 // Writes into the words from `lead` to `width` of each row the set of the row alone.
 pub fn set_tags(buf: &mut [u64], rows: usize, stride: usize, width: usize, lead: usize)
-    requires { ⌜ (lead ≤ width) × (width ≤ stride) × (rows * stride ≤ length (now buf)) × (64 * lead + rows ≤ 64 * width) × (64 * width < 2 ^ 64) ⌝ }
+    requires { ⌜ (lead ≤ width) × (width ≤ stride) × (rows * stride ≤ length (now buf)) × (64 * lead + rows ≤ 64 * width) × (64 * lead + rows < 2 ^ 64) ⌝ }
     ensures { λ _. ⌜ Tagging (now (buf .entry)) rows stride width lead (now (buf .exit)) ⌝ }
 {
     for p in 0..rows {

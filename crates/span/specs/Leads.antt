@@ -213,3 +213,14 @@ slotted-more {L = L} {n = n} {row = row} {slot = slot} new b h y free here other
 
     apart : (p : ℕ) → p < n → ¬ (x .lead p ≡ b)
     apart p g e = omega (arith, x .own p g, ap slot e, free)
+
+-- ---- rows that agree in their first L bits
+
+pub dependent-same : {L d : ℕ} {row : ℕ → Word} {S : ℕ → Bool} (new : ℕ → Word) → ((p : ℕ) → p ≤ d → (i : ℕ) → i < L → new p i ≡ row p i) → DependentRows L row d S
+    → DependentRows L new d S
+dependent-same {d = d} new e x =
+    record { last = x .last; cancels = λ i l. xorsum-cong (suc d) _ _ (λ p h. rw (e p (omega arith) i l)) ∙ x .cancels i l }
+
+pub independent-same : (L m : ℕ) (row new : ℕ → Word) → ((p : ℕ) → p < m → (i : ℕ) → i < L → new p i ≡ row p i) → IndependentRows L row m
+    → IndependentRows L new m
+independent-same L m row new e x d h S y = x d h S (dependent-same row (λ p l i k. sym (e p (omega arith) i k)) y)

@@ -18,7 +18,7 @@ returns : tie.Need-returns
 returns c = refused _ _ _ _ _ _ (told-no (c .before .sized .result) (c .if1 .taken) (c .before .sized .ensures))
 
 eliminate-requires : tie.Need-eliminate-requires
-eliminate-requires c κs = let z = good (c .before .before) in (z .leads, z .widths, z .words, z .slots)
+eliminate-requires c κs = let z = good (c .before .before) in (z .leads, z .fits .widths, z .fits .words, z .slots)
 
 number-requires : tie.Need-number-requires
 number-requires c κs = search needs
