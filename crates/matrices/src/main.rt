@@ -178,17 +178,32 @@ fn answer(
     show_basis(buf, rows, stride, lead);
 }
 
+// Rows of one leading word: zero, of full rank, dependent at the last row, more rows than bits.
+fn narrow(buf: &mut [u64], slots: &mut [usize]) {
+    answer(buf, slots, 5, 2, 1, 1, 0, 0);
+    answer(buf, slots, 50, 3, 1, 1, 1, 0);
+    answer(buf, slots, 60, 2, 1, 1, 3, 118);
+    answer(buf, slots, 100, 3, 2, 1, 1, 0);
+}
+
+// Eight leading words: dependent at the first row, at the last, of full rank, at the 481st row.
+fn middle(buf: &mut [u64], slots: &mut [usize]) {
+    answer(buf, slots, 40, 16, 8, 8, 2, 0);
+    answer(buf, slots, 100, 16, 8, 8, 3, 1584);
+    answer(buf, slots, 480, 16, 8, 8, 1, 0);
+    answer(buf, slots, 481, 16, 8, 8, 3, 7680);
+}
+
+// Thirteen leading words: dependent at the 481st row; and of full rank, with a set too wide.
+fn wide(buf: &mut [u64], slots: &mut [usize]) {
+    answer(buf, slots, 481, 21, 8, 13, 3, 10080);
+    answer(buf, slots, 481, 21, 9, 13, 1, 0);
+}
+
 fn main() {
     let mut buf = [0u64; 10101];
     let mut slots = [0usize; 832];
-    answer(&mut buf, &mut slots, 5, 2, 1, 1, 0, 0);
-    answer(&mut buf, &mut slots, 50, 3, 1, 1, 1, 0);
-    answer(&mut buf, &mut slots, 60, 2, 1, 1, 3, 118);
-    answer(&mut buf, &mut slots, 100, 3, 2, 1, 1, 0);
-    answer(&mut buf, &mut slots, 40, 16, 8, 8, 2, 0);
-    answer(&mut buf, &mut slots, 100, 16, 8, 8, 3, 1584);
-    answer(&mut buf, &mut slots, 480, 16, 8, 8, 1, 0);
-    answer(&mut buf, &mut slots, 481, 16, 8, 8, 3, 7680);
-    answer(&mut buf, &mut slots, 481, 21, 8, 13, 3, 10080);
-    answer(&mut buf, &mut slots, 481, 21, 9, 13, 1, 0);
+    narrow(&mut buf, &mut slots);
+    middle(&mut buf, &mut slots);
+    wide(&mut buf, &mut slots);
 }
