@@ -3,3 +3,4 @@ pub mod Def
 pub mod Laws
 pub mod Parity
 pub mod Lowest
+pub mod Equal

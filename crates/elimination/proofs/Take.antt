@@ -13,8 +13,8 @@ use lib.Seq.{getD-set-same, getD-set-other}
 use Rattle.digits.specs.Def.{Word}
 use Rattle.span.specs.Def.{Slotted, Eliminated}
 use Rattle.span.specs.Spans.{plus-same}
-use Rattle.span.specs.Leads.{eliminated-start, eliminated-row, slotted-same, slotted-more}
-use Rattle.elimination.specs.Words.{Cleared}
+use Rattle.span.specs.Leads.{eliminated-start, eliminated-same, eliminated-row, slotted-same, slotted-more}
+use Rattle.elimination.specs.Words.{Kept, Cleared}
 use Rattle.elimination.specs.Rows.{rowsOf, slotOf, Reduced, SlotsKept, Taken, Eliminating, Finished}
 use Rattle.elimination.proofs.Words.{row-end}
 use Rattle.elimination.proofs.RowBits.{bits-same, others-same}
@@ -49,6 +49,17 @@ module _ (ws : List ℕ) (r stride width lead : ℕ) (slots out : List ℕ) (b :
         no = λ _. (λ i l. x .leading .lower i (omega arith), still);
       }
 
+-- ---- the start, and a row made anew, for a caller that makes its rows one by one
+
+pub cleared-start : {slots cleared : List ℕ} (W lead : ℕ) (old row : ℕ → Word) → Cleared slots 0 (64 * lead) cleared → Eliminated (64 * lead) W 0 0 old row (slotOf cleared)
+cleared-start {cleared = cleared} W lead old row x = eliminated-start old row (slotOf cleared) (λ b h. rw zero-add at (x .here b h))
+
+-- row r changes: the rows before it are eliminated as they were
+pub row-made : {ws out : List ℕ} {r stride width lead : ℕ} {slot : ℕ → ℕ} (old : ℕ → Word) → lead ≤ width → width ≤ stride → Kept ws (r * stride) width out
+    → Eliminated (64 * lead) (64 * width) r r old (rowsOf ws stride) slot → Eliminated (64 * lead) (64 * width) r r old (rowsOf out stride) slot
+row-made {out = out} {r = r} {stride = stride} {width = width} old lw wl k x =
+    eliminated-same (rowsOf out stride) (omega arith) (λ p h i l. others-same r stride width k wl p (omega arith) i l) x
+
 -- ---- one row more, for any rows `old` of which row r stands in the buffer
 
 module _ {ws : List ℕ} {r stride width lead : ℕ} {slots out slots′ : List ℕ} {t : Bool} (old : ℕ → Word) (lw : lead ≤ width) (wl : width ≤ stride)
@@ -78,7 +89,7 @@ pub eliminating-start : (ws : List ℕ) (stride width lead : ℕ) (slots cleared
 eliminating-start ws stride width lead slots cleared x =
     record {
       long = refl;
-      rows = eliminated-start (rowsOf ws stride) (rowsOf ws stride) (slotOf cleared) (λ b h. rw zero-add at (x .here b h));
+      rows = cleared-start (64 * width) lead (rowsOf ws stride) (rowsOf ws stride) x;
       between = λ p k h l m. refl;
       behind = λ j h. refl;
     }

@@ -4,8 +4,11 @@ use mathlib.Core.List.{List}
 use mathlib.Core.Logic.{by-cases}
 use native.Mathlib.Decide.{decLt}
 use native.Mathlib.Nat.{add-mul, mul-le-mul-left}
-use Prim.Native.Nat.{ℕ, _+_, _-_, _*_, _≤_}
+use Prim.Native.Nat.{ℕ, _+_, _-_, _*_, _/_, _<_, _≤_}
 use native.Mathlib.Omega.{arith}
+use Rattle.theory.specs.Def.{Reduced}
+use Rattle.digits.specs.Def.{bitsFrom}
+use Rattle.elimination.specs.Rows.{rowsOf}
 use Rattle.elimination.specs.Words.{Cleared}
 use Rattle.elimination.proofs.Words.{row-end}
 use Rattle.reduction.specs.Packs.{Copied, Moved, Packed}
@@ -36,4 +39,21 @@ packed ws n stride width total mid out h x y =
       zeros = λ j l m.
           let e : j ≡ n * width + (j - n * width) = omega arith in rw e (y .here (j - n * width) (omega arith));
       behind = λ j l. y .kept .above j (omega arith) ∙ x .behind j (omega arith);
+    }
+
+-- the rows at the front have the bits that they had
+pub packed-bit : {ws : List ℕ} {n stride width total : ℕ} {out : List ℕ} → Packed ws n stride width total out → (p : ℕ) → p < n → (i : ℕ) → i < 64 * width
+    → rowsOf out width p i ≡ rowsOf ws stride p i
+unfolding bitsFrom
+packed-bit x p h i l = rw (x .words p (i / 64) h (omega arith))
+
+pub packed-reduced : {ws : List ℕ} {n stride width total k : ℕ} {out : List ℕ} {lead : ℕ → ℕ} → k ≤ 64 * width → Packed ws n stride width total out
+    → Reduced k n (rowsOf ws stride) lead → Reduced k n (rowsOf out width) lead
+packed-reduced wk x r =
+    record {
+      inside = r .inside;
+      set = λ p h. packed-bit x p h _ (omega (arith, r .inside p h)) ∙ r .set p h;
+      lowest = λ p h b l. packed-bit x p h b (omega (arith, r .inside p h)) ∙ r .lowest p h b l;
+      rising = r .rising;
+      alone = λ p q h l d. packed-bit x q l _ (omega (arith, r .inside p h)) ∙ r .alone p q h l d;
     }
