@@ -56,6 +56,19 @@ module _ {k L n : ℕ} {row : ℕ → Word} {out : ℕ → Bits k → Bool} (x :
     pub rows-bound : (m : ℕ) → m ≤ n → IndependentRows L row m → m ≤ k
     rows-bound m h y = Machine.bound out linear m (independent-even m h y)
 
+-- there is one first set only
+module _ {k d e : ℕ} {out : ℕ → Bits k → Bool} {S T : ℕ → Bool} (x : FirstSet out d S) (y : FirstSet out e T) where
+  pub first-place : d ≡ e
+  first-place =
+      by-cases (decLt d e)
+      (λ l. absurd (x .uneven (suc d) (omega arith) (y .even (suc d) l)))
+      (λ g. by-cases (decLt e d) (λ l. absurd (y .uneven (suc e) (omega arith) (x .even (suc e) l))) (λ f. omega arith))
+
+  pub first-only : (i : ℕ) → i < suc d → S i ≡ T i
+  first-only i h =
+      let t : Dependent out d T = rw first-place (y .set) in
+      sym (x .only T t i h)
+
 -- rows that agree in the L bits
 pub rows-same : {k L n : ℕ} {row : ℕ → Word} {out : ℕ → Bits k → Bool} (new : ℕ → Word) → ((p : ℕ) → p < n → (i : ℕ) → i < L → new p i ≡ row p i)
     → RowsOf L n row out → RowsOf L n new out
