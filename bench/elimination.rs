@@ -14,6 +14,14 @@ extern "C" {
     ) -> usize;
 }
 
+extern "C" {
+    fn dayunglipo_engine_basis(buf: *mut u64, len: usize, rows: usize, stride: usize, width: usize, k: usize) -> usize;
+}
+
+fn proved_basis(buf: &mut [u64], rows: usize, stride: usize, width: usize, lead: usize, _: &mut [usize]) -> usize {
+    unsafe { dayunglipo_engine_basis(buf.as_mut_ptr(), buf.len(), rows, stride, width, 64 * lead) }
+}
+
 fn proved(buf: &mut [u64], rows: usize, stride: usize, width: usize, lead: usize, slots: &mut [usize]) -> usize {
     unsafe {
         dayunglipo_engine_eliminate(buf.as_mut_ptr(), buf.len(), rows, stride, width, lead, slots.as_mut_ptr(), slots.len())
@@ -57,6 +65,42 @@ fn plain(buf: &mut [u64], rows: usize, stride: usize, width: usize, lead: usize,
         }
     }
     rows
+}
+
+/// The reduced row echelon form by columns, in plain Rust.
+#[inline(never)]
+fn plain_basis(buf: &mut [u64], rows: usize, stride: usize, width: usize, lead: usize, _: &mut [usize]) -> usize {
+    let has = |buf: &[u64], p: usize, c: usize| (buf[p * stride + c / 64] >> (c % 64)) & 1 == 1;
+    let add = |buf: &mut [u64], q: usize, r: usize| {
+        let (to, from) = if q < r {
+            let (low, high) = buf.split_at_mut(r * stride);
+            (&mut low[q * stride..q * stride + width], &high[..width])
+        } else {
+            let (low, high) = buf.split_at_mut(q * stride);
+            (&mut high[..width], &low[r * stride..r * stride + width])
+        };
+        for (x, y) in to.iter_mut().zip(from) {
+            *x ^= *y;
+        }
+    };
+    let mut rank = 0;
+    for c in 0..64 * lead {
+        let Some(p) = (rank..rows).find(|p| has(buf, *p, c)) else { continue };
+        if p != rank {
+            add(buf, rank, p);
+        }
+        for q in 0..rows {
+            if q != rank && has(buf, q, c) {
+                add(buf, q, rank);
+            }
+        }
+        rank += 1;
+    }
+    for p in 0..rank {
+        buf.copy_within(p * stride..p * stride + width, p * width);
+    }
+    buf[rank * width..rows * stride].fill(0);
+    rank
 }
 
 struct Random(u64);
@@ -110,16 +154,19 @@ fn time(f: Engine, ms: &[Vec<u64>], rows: usize, stride: usize, width: usize, le
 fn main() {
     let mut random = Random(0x9e3779b97f4a7c15);
     println!("{:<44} {:>12} {:>12} {:>8}", "random matrices, 8 leading words", "Rattle us", "Rust us", "ratio");
-    for (name, rows, bits, stride, width, lead) in [
-        ("480 rows, with sets (width 16, stride 16)", 480, 480, 16, 16, 8),
-        ("480 rows, without sets (width 8, stride 16)", 480, 480, 16, 8, 8),
-        ("480 rows, without sets (width 8, stride 8)", 480, 480, 8, 8, 8),
-    ] {
+    let cases: [(&str, Engine, Engine, usize, usize); 4] = [
+        ("480 rows, with sets (width 16, stride 16)", proved, plain, 16, 16),
+        ("480 rows, without sets (width 8, stride 16)", proved, plain, 16, 8),
+        ("480 rows, without sets (width 8, stride 8)", proved, plain, 8, 8),
+        ("480 rows, reduced (width 8, stride 16)", proved_basis, plain_basis, 16, 8),
+    ];
+    for (name, ours, theirs, stride, width) in cases {
+        let (rows, bits, lead) = (480, 480, 8);
         let ms: Vec<Vec<u64>> = (0..60).map(|_| matrix(&mut random, rows, bits, stride, width, lead)).collect();
         let (mut best_a, mut best_b) = (f64::MAX, f64::MAX);
         for _ in 0..12 {
-            let (a, x) = time(proved, &ms, rows, stride, width, lead);
-            let (b, y) = time(plain, &ms, rows, stride, width, lead);
+            let (a, x) = time(ours, &ms, rows, stride, width, lead);
+            let (b, y) = time(theirs, &ms, rows, stride, width, lead);
             assert_eq!(x, y);
             best_a = best_a.min(a);
             best_b = best_b.min(b);

@@ -97,11 +97,5 @@ module _ {W n : ℕ} {row : ℕ → Word} where
         sum = λ i l. g i l ∙ x .sum i l ∙ ap₂ _⊕_ (sym (f i l)) (xorsum-cong n _ _ (λ p h. rw (e p h i l)));
       }
 
-  -- what is added is a sum of the rows
-  pub plus-spanned : (ρ σ : Word) → Plus W n row ρ σ → Spanned W n row ρ → Spanned W n row σ
-  plus-spanned ρ σ x y =
-      spanned-same (λ i. ρ i ⊕ xorsum n (λ p. x .chosen p && row p i)) σ (x .sum)
-      (spanned-add ρ (λ i. xorsum n (λ p. x .chosen p && row p i)) y (spanned-sum n (x .chosen) row (λ p h. spanned-row p h)))
-
 pub plus-fewer : {L W n : ℕ} {row : ℕ → Word} {ρ σ : Word} → L ≤ W → Plus W n row ρ σ → Plus L n row ρ σ
 plus-fewer l x = record { chosen = x .chosen; sum = λ i h. x .sum i (omega arith) }
