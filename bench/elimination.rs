@@ -71,13 +71,13 @@ fn plain(buf: &mut [u64], rows: usize, stride: usize, width: usize, lead: usize,
 #[inline(never)]
 fn plain_basis(buf: &mut [u64], rows: usize, stride: usize, width: usize, lead: usize, _: &mut [usize]) -> usize {
     let has = |buf: &[u64], p: usize, c: usize| (buf[p * stride + c / 64] >> (c % 64)) & 1 == 1;
-    let add = |buf: &mut [u64], q: usize, r: usize| {
+    let add = |buf: &mut [u64], q: usize, r: usize, start: usize| {
         let (to, from) = if q < r {
             let (low, high) = buf.split_at_mut(r * stride);
-            (&mut low[q * stride..q * stride + width], &high[..width])
+            (&mut low[q * stride + start..q * stride + width], &high[start..width])
         } else {
             let (low, high) = buf.split_at_mut(q * stride);
-            (&mut high[..width], &low[r * stride..r * stride + width])
+            (&mut high[start..width], &low[r * stride + start..r * stride + width])
         };
         for (x, y) in to.iter_mut().zip(from) {
             *x ^= *y;
@@ -87,11 +87,11 @@ fn plain_basis(buf: &mut [u64], rows: usize, stride: usize, width: usize, lead: 
     for c in 0..64 * lead {
         let Some(p) = (rank..rows).find(|p| has(buf, *p, c)) else { continue };
         if p != rank {
-            add(buf, rank, p);
+            add(buf, rank, p, c / 64);
         }
         for q in 0..rows {
             if q != rank && has(buf, q, c) {
-                add(buf, q, rank);
+                add(buf, q, rank, c / 64);
             }
         }
         rank += 1;

@@ -114,7 +114,10 @@ module _ (ws : List ℕ) (at k : ℕ) (z : Zero (64 * k) (bitsFrom ws at)) where
 pub leading-none : (ws : List ℕ) (at lead : ℕ) → Zero (64 * lead) (bitsFrom ws at) → Leading (64 * lead) (bitsFrom ws at) (64 * lead)
 leading-none ws at lead z = record { within = omega arith; set = λ l. absurd (omega arith); lower = z }
 
--- all words of the row at src are added
-pub added-row : {ws out : List ℕ} {dst n : ℕ} (src : ℕ) → Added ws dst src n out → (i : ℕ) → i < 64 * n → bitsFrom out dst i ≡ bitsFrom ws dst i ⊕ bitsFrom ws src i
-unfolding bitsFrom
-added-row src x i h = rw (x .here (i / 64) (omega arith)) (digit-xor _ _ _)
+-- all of the row at src is added, where its words before `from` are zero
+pub added-row : {ws out : List ℕ} (dst src from n : ℕ) → from ≤ n → Added ws (dst + from) (src + from) (n - from) out → Zero (64 * from) (bitsFrom ws src)
+    → (i : ℕ) → i < 64 * n → bitsFrom out dst i ≡ bitsFrom ws dst i ⊕ bitsFrom ws src i
+added-row {ws} dst src from n h x z i l =
+    by-cases (decLt i (64 * from))
+    (λ g. added-before dst src from x i g ∙ sym (ap (λ t. bitsFrom ws dst i ⊕ t) (z i g) ∙ ⊕-false (bitsFrom ws dst i)))
+    (λ g. added-bit dst src from x i (omega arith) (omega arith))

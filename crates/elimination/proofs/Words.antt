@@ -2,7 +2,7 @@
 use mathlib.Core.Path.{_≡_, refl, _∙_}
 use mathlib.Core.Logic.{inl, inr, by-cases}
 use mathlib.Core.List.{List}
-use Prim.Native.Nat.{ℕ, _+_, _*_, _/_, _≤_, _<_}
+use Prim.Native.Nat.{ℕ, _-_, _+_, _*_, _/_, _≤_, _<_}
 use native.Mathlib.Nat.{mul-le-mul-right, suc-mul}
 use native.Mathlib.Decide.{decLt}
 use native.Mathlib.Omega.{arith}
@@ -18,8 +18,16 @@ pub apart-rows : (q r stride width : ℕ) → ¬ (q ≡ r) → width ≤ stride 
 apart-rows q r stride width d w =
     by-cases (decLt q r) (λ l. inl (row-end q r stride width l w)) (λ g. inr (row-end r q stride width (omega arith) w))
 
+pub apart-from : (a b n from : ℕ) → from ≤ n → Apart a b n → Apart (a + from) (b + from) (n - from)
+apart-from a b n from h (inl l) = inl (omega arith)
+apart-from a b n from h (inr l) = inr (omega arith)
+
 pub kept-all : (ws : List ℕ) (at n : ℕ) → Kept ws at n ws
 kept-all ws at n = record { long = refl; below = λ j h. refl; above = λ j h. refl }
+
+-- the words from `from` on, of n at `at`
+pub kept-from : {ws out : List ℕ} (at n from : ℕ) → from ≤ n → Kept ws (at + from) (n - from) out → Kept ws at n out
+kept-from at n from h x = record { long = x .long; below = λ j l. x .below j (omega arith); above = λ j l. x .above j (omega arith) }
 
 -- within the same range again
 pub kept-more : {ws mid out : List ℕ} {at n a m : ℕ} → at ≤ a → a + m ≤ at + n → Kept ws at n mid → Kept mid a m out → Kept ws at n out

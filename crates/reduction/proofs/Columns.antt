@@ -4,17 +4,18 @@ use mathlib.Core.Bool.{Bool, true, false, _&&_}
 use mathlib.Core.List.{List}
 use mathlib.Core.Logic.{by-cases}
 use native.Mathlib.Decide.{decLt, ℕ-discrete}
-use Prim.Native.Nat.{ℕ, _+_, _*_, _/_, _≤_, _<_}
+use Prim.Native.Nat.{ℕ, _-_, _+_, _*_, _/_, _≤_, _<_}
 use native.Mathlib.Omega.{arith}
 use borrow.Author.Tests.{eq-eqb, ne-eqb}
 use Rattle.theory.specs.Def.{_⊕_, Spanned}
 use Rattle.theory.specs.Laws.{⊕-false, xor-ac}
+use Rattle.span.specs.Def.{Zero}
 use Rattle.span.specs.Spans.{spanned-row, spanned-same, spanned-add}
 use Rattle.span.specs.Columns.{reducing-start, reducing-turn, reducing-pass}
 use Rattle.elimination.specs.Words.{Kept, Added}
 use Rattle.elimination.specs.Rows.{rowsOf}
 use Rattle.elimination.specs.declared.Found.the-variants.{At, Nothing}
-use Rattle.elimination.proofs.Words.{row-end, kept-all}
+use Rattle.elimination.proofs.Words.{row-end, kept-all, kept-from}
 use Rattle.elimination.proofs.RowBits.{others-same, added-row}
 use Rattle.reduction.specs.Columns.{RowsKept, Holder, AddedIf, Column, brought, Brought, Pivoted, ReducedForm}
 
@@ -51,11 +52,14 @@ row-kept ws n q stride width out h w x =
 -- ---- one row into another
 
 module _ (ws : List ℕ) (q r stride width c : ℕ) where
-  pub added-yes : (out : List ℕ) → Added ws (q * stride) (r * stride) width out → rowsOf ws stride q c ≡ true → AddedIf ws q r stride width c out
-  added-yes out x e =
+  pub added-yes : (out : List ℕ) → c < 64 * width → Zero (64 * (c / 64)) (rowsOf ws stride r)
+      → Added ws (q * stride + c / 64) (r * stride + c / 64) (width - c / 64) out → rowsOf ws stride q c ≡ true → AddedIf ws q r stride width c out
+  added-yes out h z x e =
       record {
-        kept = x .kept;
-        bits = λ i l. added-row (r * stride) x i l ∙ ap (λ b. rowsOf ws stride q i ⊕ b && rowsOf ws stride r i) (sym e);
+        kept = kept-from (q * stride) width (c / 64) (omega arith) (x .kept);
+        bits = λ i l.
+            added-row (q * stride) (r * stride) (c / 64) width (omega arith) x z i l
+            ∙ ap (λ b. rowsOf ws stride q i ⊕ b && rowsOf ws stride r i) (sym e);
       }
 
   pub added-no : rowsOf ws stride q c ≡ false → AddedIf ws q r stride width c ws
@@ -96,9 +100,19 @@ module _ (ws : List ℕ) (r p stride width : ℕ) where
   unfolding brought
   brought-same e = record { kept = kept-all ws (r * stride) width; here = λ i l. rw (eq-eqb p r e) }
 
-  pub brought-add : (out : List ℕ) → ¬ (p ≡ r) → Added ws (r * stride) (p * stride) width out → Brought ws r p stride width out
+  pub brought-add : (from : ℕ) (out : List ℕ) → ¬ (p ≡ r) → from ≤ width → Zero (64 * from) (rowsOf ws stride p)
+      → Added ws (r * stride + from) (p * stride + from) (width - from) out → Brought ws r p stride width out
   unfolding brought
-  brought-add out d x = record { kept = x .kept; here = λ i l. rw (ne-eqb p r d) (added-row (p * stride) x i l) }
+  brought-add from out d h z x =
+      record {
+        kept = kept-from (r * stride) width from h (x .kept);
+        here = λ i l. rw (ne-eqb p r d) (added-row (r * stride) (p * stride) from width h x z i l);
+      }
+
+  pub brought-zero : (b : ℕ) → Zero b (rowsOf ws stride r) → Zero b (rowsOf ws stride p) → Zero b (brought ws r p stride)
+  unfolding brought
+  brought-zero b y z i l =
+      by-cases (ℕ-discrete p r) (λ e. rw (eq-eqb p r e) (y i l)) (λ d. rw (ne-eqb p r d) (ap₂ _⊕_ (y i l) (z i l)))
 
 pub pivoted : (ws : List ℕ) (n r p stride width c : ℕ) (mid out : List ℕ) → r < n → width ≤ stride → c < 64 * width → Brought ws r p stride width mid
     → Column mid n r stride width c n out → Pivoted ws n r p stride width c out

@@ -2,6 +2,8 @@
 ghost use mathlib.Core.Path.{_≡_};
 ghost use Prim.Native.Nat.{ℕ, _+_, _*_, _/_, _<_, _≤_};
 ghost use lib.ListN.{length};
+ghost use Rattle.span.specs.Def.{Zero};
+ghost use Rattle.elimination.specs.Rows.{rowsOf};
 ghost use Rattle.reduction.specs.Columns.{Holder, AddedIf, Column, Brought, Pivoted, ReducedForm};
 ghost use Rattle.reduction.specs.Packs.{Copied, Moved, Packed};
 use elimination::Found;
@@ -19,20 +21,23 @@ pub fn find_row(buf: &[u64], from: usize, n: usize, stride: usize, c: usize) -> 
     Found::Nothing
 }
 
-// Adds row r into row q if that has the bit c.
+// Adds row r, whose words before that of the bit c are zero, into row q if that has the bit c.
 pub fn add_if(buf: &mut [u64], q: usize, r: usize, stride: usize, width: usize, c: usize)
     requires { ⌜ (q ≡ r → ⊥) × (width ≤ stride) × (q * stride + width ≤ length (now buf)) × (r * stride + width ≤ length (now buf)) × (c < 64 * width) ⌝ }
+    requires { ⌜ Zero (64 * (c / 64)) (rowsOf (now buf) stride r) ⌝ }
     ensures { λ _. ⌜ AddedIf (now (buf .entry)) q r stride width c (now (buf .exit)) ⌝ }
 {
     let at = q * stride;
     if elimination::bit_at(buf, at, c) {
-        elimination::add_words(buf, at, r * stride, width);
+        let from = c / 64;
+        elimination::add_words(buf, at + from, r * stride + from, width - from);
     }
 }
 
 // Adds row r into each other row below n that has the bit c.
 pub fn clear_column(buf: &mut [u64], n: usize, r: usize, stride: usize, width: usize, c: usize)
     requires { ⌜ (r < n) × (width ≤ stride) × (n * stride ≤ length (now buf)) × (c < 64 * width) ⌝ }
+    requires { ⌜ Zero (64 * (c / 64)) (rowsOf (now buf) stride r) ⌝ }
     ensures { λ _. ⌜ Column (now (buf .entry)) n r stride width c n (now (buf .exit)) ⌝ }
 {
     for q in 0..n {
@@ -42,13 +47,14 @@ pub fn clear_column(buf: &mut [u64], n: usize, r: usize, stride: usize, width: u
     }
 }
 
-// Adds row p into row r, if they are two.
-pub fn bring_row(buf: &mut [u64], r: usize, p: usize, stride: usize, width: usize)
-    requires { ⌜ (width ≤ stride) × (r * stride + width ≤ length (now buf)) × (p * stride + width ≤ length (now buf)) ⌝ }
+// Adds row p, whose words before `from` are zero, into row r, if they are two.
+pub fn bring_row(buf: &mut [u64], r: usize, p: usize, stride: usize, width: usize, from: usize)
+    requires { ⌜ (width ≤ stride) × (r * stride + width ≤ length (now buf)) × (p * stride + width ≤ length (now buf)) × (from ≤ width) ⌝ }
+    requires { ⌜ Zero (64 * from) (rowsOf (now buf) stride p) ⌝ }
     ensures { λ _. ⌜ Brought (now (buf .entry)) r p stride width (now (buf .exit)) ⌝ }
 {
     if p != r {
-        elimination::add_words(buf, r * stride, p * stride, width);
+        elimination::add_words(buf, r * stride + from, p * stride + from, width - from);
     }
 }
 
@@ -63,9 +69,10 @@ pub fn take_pivot(
     c: usize,
 )
     requires { ⌜ (r < n) × (p < n) × (width ≤ stride) × (n * stride ≤ length (now buf)) × (c < 64 * width) ⌝ }
+    requires { ⌜ Zero (64 * (c / 64)) (rowsOf (now buf) stride r) × Zero (64 * (c / 64)) (rowsOf (now buf) stride p) ⌝ }
     ensures { λ _. ⌜ Pivoted (now (buf .entry)) n r p stride width c (now (buf .exit)) ⌝ }
 {
-    bring_row(buf, r, p, stride, width);
+    bring_row(buf, r, p, stride, width, c / 64);
     clear_column(buf, n, r, stride, width, c);
 }
 

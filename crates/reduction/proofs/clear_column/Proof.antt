@@ -1,5 +1,5 @@
 -- `reduction::clear_column` meets its contract. The loop's invariant: the rows below q are done, the others as they were.
-use mathlib.Core.Path.{_≡_}
+use mathlib.Core.Path.{_≡_, _∙_}
 use Prim.Native.Nat.{_≤_, _-_}
 use native.Mathlib.Omega.{arith}
 use borrow.Author.Needs.{needs}
@@ -27,9 +27,12 @@ add-if-requires c κs =
     let t = c .before .before in
     let l = t .before .loop in
     let s = t .before .before .before in
-    let a = row-end (l .q) (s .args .n) (s .args .stride) (s .args .width) (t .loop-test .taken) (s .pre .1) in
-    let b = row-end (s .args .r) (s .args .n) (s .args .stride) (s .args .width) (s .pre .0) (s .pre .1) in
-    (c .before .if1 .taken, s .pre .1, omega (arith, s .pre .2, l .inv .1 .kept .long), omega (arith, s .pre .2, l .inv .1 .kept .long), s .pre .3)
+    let p = s .pre .0 in
+    let a = row-end (l .q) (s .args .n) (s .args .stride) (s .args .width) (t .loop-test .taken) (p .1) in
+    let b = row-end (s .args .r) (s .args .n) (s .args .stride) (s .args .width) (p .0) (p .1) in (
+      (c .before .if1 .taken, p .1, omega (arith, p .2, l .inv .1 .kept .long), omega (arith, p .2, l .inv .1 .kept .long), p .3),
+      λ i h. l .inv .1 .here i (omega (arith, p .3)) ∙ s .pre .1 i h,
+    )
 
 add-q : tie.Need-add-q Inv-loop μ-loop
 add-q c = search needs
@@ -42,7 +45,7 @@ loop-again c =
     let l = c .before .before .loop in
     let s = c .before .before .before .before in
     ⊎-elim
-    (λ w. (omega arith, rw (w .5) (column-add _ _ _ _ _ _ _ _ (l .inv .1) _ (c .before .loop-test .taken) (w .0 .taken) (s .pre .1) (s .pre .3) (w .2 .ensures))))
+    (λ w. (omega arith, rw (w .5) (column-add _ _ _ _ _ _ _ _ (l .inv .1) _ (c .before .loop-test .taken) (w .0 .taken) (s .pre .0 .1) (s .pre .0 .3) (w .2 .ensures))))
     (λ w. (omega arith, rw (w .1) (column-skip _ _ _ _ _ _ _ _ (l .inv .1) (w .0 .left))))
     (c .if1 .came)
 

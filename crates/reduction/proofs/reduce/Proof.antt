@@ -46,7 +46,11 @@ take-pivot-requires c κs =
     let t = c .before .before .before .before .before .before in
     let l = t .before .loop in
     let s = t .before .before .before in
-    (omega (arith, z .0, z .1), z .1, s .pre .0, omega (arith, s .pre .1, l .inv .1 .kept .long), omega (arith, t .loop-test .taken, s .pre))
+    let x = l .inv .1 in
+    let h : l .rank < s .args .n = omega (arith, z .0, z .1) in (
+      (h, z .1, s .pre .0, omega (arith, s .pre .1, x .kept .long), omega (arith, t .loop-test .taken, s .pre)),
+      (λ i m. x .rows .rest (l .rank) (omega arith) h i (omega arith), λ i m. x .rows .rest _ (z .0) (z .1) i (omega arith)),
+    )
 
 add-rank : tie.Need-add-rank Inv-loop μ-loop
 add-rank c = let z = held (c .before .before .before) in omega (arith, z .0, z .1)
