@@ -2,3 +2,5 @@
 pub mod Def
 pub mod Laws
 pub mod Parity
+pub mod Lowest
+pub mod Equal

@@ -1,0 +1,6 @@
+-- Laws that belong to no one function.
+pub mod Words
+pub mod RowBits
+pub mod Reduce
+pub mod Take
+pub mod Tags

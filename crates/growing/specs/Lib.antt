@@ -1,0 +1,2 @@
+-- What the contracts of `growing` cite.
+pub mod Grown
