@@ -4,3 +4,4 @@ pub mod Theorems
 pub mod Linear
 pub mod Reads
 pub mod Recurrence
+pub mod Transpose
