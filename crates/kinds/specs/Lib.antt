@@ -5,3 +5,4 @@ pub mod Linear
 pub mod Reads
 pub mod Recurrence
 pub mod Transpose
+pub mod Alike
