@@ -1,0 +1,5 @@
+-- Laws that the proofs cite.
+pub mod Numbers
+pub mod KindOne
+pub mod KindTwo
+pub mod KindFour
