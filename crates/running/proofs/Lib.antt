@@ -3,3 +3,5 @@ pub mod Numbers
 pub mod KindOne
 pub mod KindTwo
 pub mod KindFour
+pub mod Masks
+pub mod PrepareLaws

@@ -1,10 +1,13 @@
 // Generators run on states of eight words by value: a generator is prepared once, then moved and asked for its output.
 ghost use mathlib.Core.Path.{_≡_};
 ghost use Rattle.digits.specs.Def.{Same, bitsOf, numberOf};
-ghost use Rattle.running.specs.Prepared.{Ready, machineOf};
+ghost use Rattle.document.specs.Ranges.{Accepted};
+ghost use Rattle.running.specs.Prepared.{Ready, PreparedFor, machineOf};
+use document::Fields;
 use document::ROW_WORDS;
 
 pub mod gfsr;
+pub mod preparing;
 pub mod tausworthe;
 pub mod twister;
 
@@ -30,6 +33,28 @@ pub struct Prepared {
     pub v: usize,
     // Kind 1: the state bits that the next bit sums, and the bit k. Kind 2: the coefficient of the word i at bit i.
     pub mask: [u64; ROW_WORDS],
+}
+
+// The generator that a description's fields stand for, made ready. Kind 3 is a case of kind 4.
+pub fn prepare(g: Fields) -> Prepared
+    requires { ⌜ Accepted g ⌝ }
+    ensures { λ p. ⌜ PreparedFor g p ⌝ }
+{
+    let kind = g.kind;
+    if kind == 1 {
+        return preparing::of_tausworthe(g);
+    }
+    if kind == 2 {
+        return preparing::of_gfsr(g);
+    }
+    if kind == 3 {
+        let w = preparing::count(g.w);
+        return preparing::of_twister(g, 0, w, w);
+    }
+    let p = preparing::count(g.p);
+    let u = preparing::count(g.u);
+    let v = preparing::count(g.v);
+    preparing::of_twister(g, p, u, v)
 }
 
 // The next state.
