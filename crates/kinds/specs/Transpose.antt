@@ -181,7 +181,8 @@ back1-clear k a ρ p c i h =
     (λ e. rw (e, taps-at k a) (ap (λ b. ρ (k - 1) ⊕ b) (and-true (ρ (k - 1))) ∙ ⊕-self (ρ (k - 1))))
     (λ n. rw (c (i - 1) (omega arith), taps-past k a i (omega arith)) (and-false (ρ (k - 1)))))
 
-pub first1 : ℕ → Word → ℕ → Word
+-- the row of bit j: the first bit, j steps before
+unfoldable pub first1 : ℕ → Word → ℕ → Word
 first1 k a j = times j (back1 k a) (unit 0)
 
 unit-clear : (k j : ℕ) → j < k → Clear k (unit j)

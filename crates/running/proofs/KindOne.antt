@@ -24,7 +24,7 @@ use Rattle.running.specs.Prepared.{Mask, Stepped, tapped}
 use Rattle.running.proofs.Numbers.{bit-number, number-lt}
 
 -- the taps of the coefficients of a mask are its bits
-tapped-below : (k : ℕ) (mask : Word) → Same k mask (taps k (tapped k mask))
+pub tapped-below : (k : ℕ) (mask : Word) → Same k mask (taps k (tapped k mask))
 unfolding taps tapped
 tapped-below k mask i h = let e : i ≡ k - suc (k - suc i) = omega arith in rw (lt-ltb i k h) (ap mask e)
 
