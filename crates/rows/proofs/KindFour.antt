@@ -15,7 +15,9 @@ use Rattle.theory.specs.Sums.{unit-at, unit-other}
 use Rattle.digits.specs.Def.{Word, Same, Clear, digit, bitsOf}
 use Rattle.digits.specs.Laws.{digit-mod, digit-shr}
 use Rattle.kinds.specs.Generator.{_⊻_, mersenne}
-use Rattle.kinds.specs.Transpose.{down, place, same-place, untwist, same-untwist, unLeft, unRight, same-unLeft, same-unRight, first4, back4, mersenne-rows}
+use Rattle.kinds.specs.Transpose.{down, place, untwist, unLeft, unRight, first4, back4}
+use Rattle.kinds.specs.Rows.{mersenne-rows}
+use Rattle.kinds.specs.Adjoint.{same-place, same-untwist, same-unLeft, same-unRight}
 use Rattle.kinds.specs.Reads.{word-in}
 use Rattle.states.specs.Post.{Holds}
 use Rattle.document.specs.Limits.{mostBits}

@@ -16,7 +16,9 @@ use Rattle.theory.specs.Sums.{unit-other}
 use Rattle.digits.specs.Def.{Word, Same, Clear, digit, bitsOf}
 use Rattle.digits.specs.Laws.{digit-zero}
 use Rattle.kinds.specs.Generator.{_⊻_, right, enter, times, tausworthe}
-use Rattle.kinds.specs.Transpose.{taps, taps-at, taps-past, back1, back1-clear, first1, tausworthe-rows}
+use Rattle.kinds.specs.Transpose.{taps, back1, first1}
+use Rattle.kinds.specs.Rows.{tausworthe-rows}
+use Rattle.kinds.specs.Adjoint.{taps-at, taps-past, back1-clear}
 use Rattle.states.specs.Post.{stateBits}
 use Rattle.states.proofs.StateLaws.{bits-past}
 use Rattle.document.specs.Limits.{rowWords}

@@ -10,7 +10,9 @@ use Rattle.theory.specs.Def.{_⊕_, xorsum, unit}
 use Rattle.theory.specs.Laws.{⊕-assoc, ⊕-false, xorsum-cong}
 use Rattle.digits.specs.Def.{Word, Same, Clear, digit, bitsOf}
 use Rattle.kinds.specs.Generator.{_⊻_, gfsr}
-use Rattle.kinds.specs.Transpose.{down, place, same-place, back2, gfsr-rows}
+use Rattle.kinds.specs.Transpose.{down, place, back2}
+use Rattle.kinds.specs.Rows.{gfsr-rows}
+use Rattle.kinds.specs.Adjoint.{same-place}
 use Rattle.kinds.specs.Reads.{word-in}
 use Rattle.states.specs.Post.{Holds}
 use Rattle.document.specs.Limits.{mostBits}

@@ -8,7 +8,7 @@ use Rattle.theory.specs.Def.{pair, Bits, bit}
 use Rattle.theory.specs.Sums.{pair-same}
 use Rattle.digits.specs.Def.{Word, Same, Clear, bitsOf}
 use Rattle.kinds.specs.Generator.{Machine, outputBit}
-use Rattle.kinds.specs.Transpose.{bit-first, bit-next}
+use Rattle.kinds.specs.Rows.{bit-first, bit-next}
 use Rattle.kinds.specs.Alike.{Alike, alike-output}
 use Rattle.document.specs.declared.Fields.{Fields}
 use Rattle.document.specs.Generator.{machine}

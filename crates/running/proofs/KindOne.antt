@@ -17,7 +17,8 @@ use Rattle.theory.specs.Sums.{pair-same, pair-cut}
 use Rattle.digits.specs.Def.{Word, Same, Clear, digit, nonzero, bitsOf, numberOf}
 use Rattle.kinds.specs.Generator.{nextBit, stepped, times}
 use Rattle.kinds.specs.Reads.{same-stepped}
-use Rattle.kinds.specs.Transpose.{down, taps, taps-sum}
+use Rattle.kinds.specs.Transpose.{down, taps}
+use Rattle.kinds.specs.Adjoint.{taps-sum}
 use Rattle.states.specs.Post.{Flipped, stateBits}
 use Rattle.document.specs.Limits.{mostBits}
 use Rattle.running.specs.Prepared.{Mask, Stepped, tapped}

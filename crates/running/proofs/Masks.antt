@@ -13,7 +13,8 @@ use Rattle.theory.specs.Def.{_⊕_}
 use Rattle.theory.specs.Laws.{⊕-false}
 use Rattle.digits.specs.Def.{Word, Same, Clear, digit, bitsOf, wordOf}
 use Rattle.digits.specs.Laws.{digit-zero}
-use Rattle.kinds.specs.Transpose.{place, place-past, taps, taps-at, taps-past}
+use Rattle.kinds.specs.Transpose.{place, taps}
+use Rattle.kinds.specs.Adjoint.{place-below, place-from, place-past, taps-below, taps-at, taps-past}
 use Rattle.states.specs.Post.{Holds, Flipped}
 
 -- a state of zeros
@@ -25,15 +26,6 @@ none-set n b = ap (λ x. digit x (b % 64)) (zeros n (b / 64)) ∙ digit-zero (b 
     zeros zero i = refl
     zeros (suc n) zero = refl
     zeros (suc n) (suc i) = zeros n i
-
--- where a placed word is, and is not
-place-at : (pos n : ℕ) (y : Word) (i : ℕ) → pos ≤ i → i - pos < n → place pos n y i ≡ y (i - pos)
-unfolding place
-place-at pos n y i h l = rw (le-ltb i pos h, lt-ltb (i - pos) n l)
-
-place-below : (pos n : ℕ) (y : Word) (i : ℕ) → i < pos → place pos n y i ≡ false
-unfolding place
-place-below pos n y i h = rw (lt-ltb i pos h)
 
 -- ---- coefficient_mask: the first j bytes are laid
 
@@ -55,7 +47,7 @@ laying-step c r t j x y l e h p = record {
       (λ o.
       let q : i / 8 ≡ j = omega arith in
       let a : 8 - suc (i - 8 * j) ≡ 7 - i % 8 = omega arith in
-      ap₂ _⊕_ (l .rest i (omega arith)) (place-at (8 * j) 8 (digit y) i (omega arith) (omega arith) ∙ h .bits (i - 8 * j) (omega arith))
+      ap₂ _⊕_ (l .rest i (omega arith)) (place-from (8 * j) 8 (digit y) i (omega arith) (omega arith) ∙ h .bits (i - 8 * j) (omega arith))
       ∙ ap₂ digit (e ∙ ap (λ m. getD c m 0) (sym q)) a);
   rest = λ i g. p i ∙ ap₂ _⊕_ (l .rest i (omega arith)) (place-past (8 * j) 8 (digit y) i (omega arith));
 }
@@ -69,10 +61,6 @@ laying-end n c r l x i =
 
 pub record Tapping (k : ℕ) (c r : List ℕ) (i : ℕ) : Type 0 where
   pub bits : (b : ℕ) → bitsOf r b ≡ cond (ltb b (k - i)) false (taps k (bitsOf c) b)
-
-taps-below : (k : ℕ) (a : Word) (b : ℕ) → b < k → taps k a b ≡ a (k - suc b)
-unfolding taps
-taps-below k a b h = rw (lt-ltb b k h)
 
 pub tapping-start : (n k : ℕ) (c r : List ℕ) → Flipped (replicate n 0) k r → Tapping k c r 0
 tapping-start n k c r f = record {
@@ -96,7 +84,7 @@ module _ (k : ℕ) (c r : List ℕ) (i : ℕ) (x : Tapping k c r i) where
         (λ g. rw (lt-ltb b (k - (i + 1)) g) (ap₂ _⊕_ (tapping-low b (omega arith)) (place-below (k - 1 - i) 1 (digit y) b (omega arith))))
         (λ g. let q : k - (i + 1) ≤ b = omega arith in rw (le-ltb b (k - (i + 1)) q) (by-cases (decLt b (k - i))
         (λ o. let e : b - (k - 1 - i) ≡ 0 = omega arith in let m : i + 0 ≡ k - suc b = omega arith in
-        ap₂ _⊕_ (tapping-low b o) (place-at (k - 1 - i) 1 (digit y) b (omega arith) (omega arith) ∙ ap (digit y) e ∙ h .bits 0 (omega arith) ∙ ap (bitsOf c) m)
+        ap₂ _⊕_ (tapping-low b o) (place-from (k - 1 - i) 1 (digit y) b (omega arith) (omega arith) ∙ ap (digit y) e ∙ h .bits 0 (omega arith) ∙ ap (bitsOf c) m)
         ∙ sym (taps-below k (bitsOf c) b (omega arith)))
         (λ o. ap₂ _⊕_ (tapping-high b (omega arith)) (place-past (k - 1 - i) 1 (digit y) b (omega arith)) ∙ ⊕-false _)));
   }

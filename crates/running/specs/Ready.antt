@@ -5,10 +5,10 @@ use mathlib.Core.Logic.{by-cases}
 use native.Mathlib.Decide.{ℕ-discrete}
 use Prim.Native.Nat.{ℕ, suc, _+_, _-_, _*_, _≤_, _<_, _^_}
 use native.Mathlib.Omega.{arith}
-use borrow.Author.Tests.{lt-ltb}
 use Rattle.digits.specs.Def.{Word, Same, Clear, digit, bitsOf, wordOf}
 use Rattle.kinds.specs.Generator.{Machine, tausworthe, gfsr, twisted, mersenne}
-use Rattle.kinds.specs.Transpose.{taps, taps-at, taps-past}
+use Rattle.kinds.specs.Transpose.{taps}
+use Rattle.kinds.specs.Adjoint.{taps-below, taps-at, taps-past}
 use Rattle.kinds.specs.Alike.{Alike, tausworthe-alike, gfsr-alike, mersenne-alike, twisted-alike}
 use Rattle.document.specs.declared.Fields.{Fields}
 use Rattle.document.specs.Generator.{machine, coefficient}
@@ -69,10 +69,6 @@ module _ (g : Fields) (p : Prepared) where
   }
 
 -- ---- the machine
-
-taps-below : (k : ℕ) (a : Word) → Same k (taps k a) (λ b. a (k - suc b))
-unfolding taps
-taps-below k a b h = rw (lt-ltb b k h)
 
 -- the coefficients are read back from their taps
 tapped-back : (k : ℕ) (mask a : Word) → ((i : ℕ) → mask i ≡ taps k a i) → Same k (tapped k mask) a

@@ -1,3 +1,4 @@
+use Rattle.document.specs.Limits.{rowWords}
 use Rattle.states.proofs.StateLaws.{Adding, adding-start, adding-step, adding-end}
 use mathlib.Core.Path.{_≡_, refl, sym, ap, _∙_}
 use Prim.Native.Nat.{ℕ, zero, suc, _+_, _*_, _≤_, _<_, _-_}
@@ -10,10 +11,10 @@ use Rattle.states.proofs.added.Reads as reads
 use Rattle.states.proofs.added.Lts as lts
 
 abbrev Inv-loop : tie.InvT-loop
-Inv-loop s t r₀ i₀ r i = (i ≤ 8) × Adding 8 s t r i
+Inv-loop s t r₀ i₀ r i = (i ≤ rowWords) × Adding rowWords s t r i
 
 abbrev μ-loop : tie.MeasureT-loop
-μ-loop s t r₀ i₀ r i = 8 - i
+μ-loop s t r₀ i₀ r i = rowWords - i
 
 -- src/lib.rt:60:5
 loop-holds : tie.Need-loop-holds Inv-loop μ-loop
@@ -57,7 +58,7 @@ loop-again c = (omega arith, adding-step _ _ _ _ _ (omega arith) (c .before .loo
 
 -- src/lib.rt:56:1
 returns : tie.Need-returns Inv-loop μ-loop
-returns c = let e : c .before .loop .i ≡ 8 = omega arith in adding-end 8 _ _ _ (search needs) (search needs) (rw e at (c .before .loop .inv .1))
+returns c = let e : c .before .loop .i ≡ rowWords = omega arith in adding-end rowWords _ _ _ (search needs) (search needs) (rw e at (c .before .loop .inv .1))
 
 pub added-spec : {M : Type 1} → statement M
 added-spec =

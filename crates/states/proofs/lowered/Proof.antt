@@ -1,3 +1,4 @@
+use Rattle.document.specs.Limits.{rowWords}
 use lib.ListN.{replicate}
 use mir.Syntax.{w64}
 use mir.Val.{Fits}
@@ -14,10 +15,10 @@ use Rattle.states.proofs.lowered.Reads as reads
 use Rattle.states.proofs.lowered.Lts as lts
 
 abbrev Inv-loop : tie.InvT-loop
-Inv-loop w s r₀ i₀ r i = (i ≤ 7) × Lowering 8 s w r i
+Inv-loop w s r₀ i₀ r i = (i ≤ rowWords - 1) × Lowering rowWords s w r i
 
 abbrev μ-loop : tie.MeasureT-loop
-μ-loop w s r₀ i₀ r i = 7 - i
+μ-loop w s r₀ i₀ r i = rowWords - 1 - i
 
 -- src/lib.rt:48:26
 sub-r : tie.Need-sub-r Inv-loop μ-loop
@@ -49,7 +50,7 @@ array-write-r c = search needs
 
 -- src/lib.rt:49:5
 loop-holds : tie.Need-loop-holds Inv-loop μ-loop
-loop-holds c = let f : Fits w64 (getD (c .args .t1) 7 0) = search needs in (omega arith, lowering-start 8 _ _ (c .pre .0) (c .pre .1) (replicate 8 0) 7 refl (f .fits) (search needs) refl)
+loop-holds c = let f : Fits w64 (getD (c .args .t1) (rowWords - 1) 0) = search needs in (omega arith, lowering-start rowWords _ _ (c .pre .0) (c .pre .1) (replicate rowWords 0) (rowWords - 1) refl (f .fits) (search needs) refl)
 
 -- src/lib.rt:50:17
 mul-r-3 : tie.Need-mul-r-3 Inv-loop μ-loop
@@ -104,14 +105,14 @@ loop-again : tie.Need-loop-again Inv-loop μ-loop
 loop-again c =
     let s = c .before .before in
     let f : Fits w64 (getD (s .args .t1) (c .before .loop .i) 0) = search needs in
-    (omega arith, lowering-step 8 _ _ (s .pre .0) (s .pre .1) _ _ (f .fits) (omega arith) (c .before .loop .inv .1))
+    (omega arith, lowering-step rowWords _ _ (s .pre .0) (s .pre .1) _ _ (f .fits) (omega arith) (c .before .loop .inv .1))
 
 -- src/lib.rt:43:1
 returns : tie.Need-returns Inv-loop μ-loop
 returns c =
     let s = c .before .before in
-    let e : c .before .loop .i ≡ 7 = omega arith in
-    lowering-end 8 _ _ (s .pre .0) (s .pre .1) _ 7 refl (search needs) (rw e at (c .before .loop .inv .1))
+    let e : c .before .loop .i ≡ rowWords - 1 = omega arith in
+    lowering-end rowWords _ _ (s .pre .0) (s .pre .1) _ (rowWords - 1) refl (search needs) (rw e at (c .before .loop .inv .1))
 
 pub lowered-spec : {M : Type 1} → statement M
 lowered-spec =

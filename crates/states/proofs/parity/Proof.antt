@@ -1,3 +1,4 @@
+use Rattle.document.specs.Limits.{rowWords}
 use mir.Syntax.{w64}
 use mir.Val.{Fits}
 use Rattle.states.proofs.StateLaws.{Summing, summing-start, summing-step, summing-end}
@@ -12,10 +13,10 @@ use Rattle.states.proofs.parity.Reads as reads
 use Rattle.states.proofs.parity.Lts as lts
 
 abbrev Inv-loop : tie.InvT-loop
-Inv-loop a b acc₀ i₀ acc i = (i ≤ 8) × Summing a b acc i
+Inv-loop a b acc₀ i₀ acc i = (i ≤ rowWords) × Summing a b acc i
 
 abbrev μ-loop : tie.MeasureT-loop
-μ-loop a b acc₀ i₀ acc i = 8 - i
+μ-loop a b acc₀ i₀ acc i = rowWords - i
 
 -- src/lib.rt:97:5
 loop-holds : tie.Need-loop-holds Inv-loop μ-loop
@@ -54,7 +55,7 @@ loop-again c =
 
 -- src/lib.rt:93:1
 returns : tie.Need-returns Inv-loop μ-loop
-returns c = let e : c .before .loop .i ≡ 8 = omega arith in summing-end 8 _ _ _ (rw e at (c .before .loop .inv .1))
+returns c = let e : c .before .loop .i ≡ rowWords = omega arith in summing-end rowWords _ _ _ (rw e at (c .before .loop .inv .1))
 
 pub parity-spec : {M : Type 1} → statement M
 parity-spec =

@@ -1,3 +1,4 @@
+use Rattle.document.specs.Limits.{rowWords}
 use Rattle.states.proofs.StateLaws.{placed-one, placed-two}
 use mathlib.Core.Path.{_≡_, refl, sym, ap, _∙_}
 use Prim.Native.Nat.{ℕ, zero, suc, _+_, _*_, _≤_, _<_, _-_}
@@ -35,7 +36,7 @@ add-if1 c = search needs
 
 -- src/lib.rt:76:9
 returns : tie.Need-returns
-returns c = let q = c .before .pre in placed-one _ _ _ (q .2) _ 8 (q .0) (q .1) (search needs) (c .if1 .taken)
+returns c = let q = c .before .pre in placed-one _ _ _ (q .2) _ rowWords (q .0) (q .1) (search needs) (c .if1 .taken)
 
 -- src/lib.rt:78:18
 add-r : tie.Need-add-r
@@ -71,7 +72,7 @@ array-write-r-2 c = search needs
 
 -- src/lib.rt:67:1
 returns-2 : tie.Need-returns-2
-returns-2 c = let q = c .before .pre in placed-two _ _ _ (q .2) _ 8 (q .0) (q .1) (search needs) (c .if1 .left)
+returns-2 c = let q = c .before .pre in placed-two _ _ _ (q .2) _ rowWords (q .0) (q .1) (search needs) (c .if1 .left)
 
 pub placed-spec : {M : Type 1} → statement M
 placed-spec =

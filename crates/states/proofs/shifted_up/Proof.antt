@@ -1,3 +1,4 @@
+use Rattle.document.specs.Limits.{rowWords}
 use mir.Syntax.{w64}
 use mir.Val.{Fits}
 use Rattle.states.proofs.StateLaws.{Rising, rising-start, rising-step}
@@ -12,14 +13,14 @@ use Rattle.states.proofs.shifted_up.Reads as reads
 use Rattle.states.proofs.shifted_up.Lts as lts
 
 abbrev Inv-loop : tie.InvT-loop
-Inv-loop w new s r₀ carry₀ i₀ r carry i = (i ≤ 8) × Rising 8 s w new r carry i
+Inv-loop w new s r₀ carry₀ i₀ r carry i = (i ≤ rowWords) × Rising rowWords s w new r carry i
 
 abbrev μ-loop : tie.MeasureT-loop
-μ-loop w new s r₀ carry₀ i₀ r carry i = 8 - i
+μ-loop w new s r₀ carry₀ i₀ r carry i = rowWords - i
 
 -- src/lib.rt:35:5
 loop-holds : tie.Need-loop-holds Inv-loop μ-loop
-loop-holds c = (omega arith, rising-start 8 _ _ _ _ refl (c .pre .2))
+loop-holds c = (omega arith, rising-start rowWords _ _ _ _ refl (c .pre .2))
 
 -- src/lib.rt:36:17
 mul-r : tie.Need-mul-r Inv-loop μ-loop
@@ -70,11 +71,11 @@ loop-again : tie.Need-loop-again Inv-loop μ-loop
 loop-again c =
     let s = c .before .before in
     let f : Fits w64 (getD (s .args .t1) (c .before .loop .i) 0) = search needs in
-    (omega arith, rising-step 8 _ _ _ _ _ _ (s .pre .0) (s .pre .1) (f .fits) (c .before .loop .inv .1) (omega arith))
+    (omega arith, rising-step rowWords _ _ _ _ _ _ (s .pre .0) (s .pre .1) (f .fits) (c .before .loop .inv .1) (omega arith))
 
 -- src/lib.rt:29:1
 returns : tie.Need-returns Inv-loop μ-loop
-returns c = let e : c .before .loop .i ≡ 8 = omega arith in (rw e at (c .before .loop .inv .1)) .done
+returns c = let e : c .before .loop .i ≡ rowWords = omega arith in (rw e at (c .before .loop .inv .1)) .done
 
 pub shifted-up-spec : {M : Type 1} → statement M
 shifted-up-spec =

@@ -1,3 +1,4 @@
+use Rattle.document.specs.Limits.{rowWords}
 use Rattle.rows.proofs.Laws.{unit-bits}
 use Rattle.rows.proofs.KindTwo.{first2-is}
 use mathlib.Core.Path.{_≡_, refl, sym, ap, _∙_}
@@ -17,7 +18,7 @@ flipped-requires c κs = omega (arith, c .pre .1, c .pre .0 .words .bits, c .pre
 
 -- src/gfsr.rt:27:1
 returns : tie.Need-returns
-returns c = let s = c .before in first2-is (s .args .p) (s .pre .0) _ _ (s .pre .1) (unit-bits 8 _ _ (c .flipped .ensures))
+returns c = let s = c .before in first2-is (s .args .p) (s .pre .0) _ _ (s .pre .1) (unit-bits rowWords _ _ (c .flipped .ensures))
 
 pub first-row-spec : {M : Type 1} → statement M
 first-row-spec = tie.close (tie.spec flipped-requires returns)

@@ -1,3 +1,4 @@
+use Rattle.document.specs.Limits.{rowWords}
 use Rattle.rows.proofs.Laws.{unit-bits}
 use Rattle.rows.proofs.KindOne.{first1-is, unit-clear}
 use mathlib.Core.Path.{_≡_, refl, sym, ap, _∙_}
@@ -18,11 +19,11 @@ flipped-requires c κs = search needs
 
 -- src/tausworthe.rt:44:5
 steps-backed-requires : tie.Need-steps-backed-requires
-steps-backed-requires c κs = let s = c .before .before in (s .pre .0 .mask, unit-clear (s .args .p) (s .pre .0) _ (unit-bits 8 0 _ (c .flipped .ensures)))
+steps-backed-requires c κs = let s = c .before .before in (s .pre .0 .mask, unit-clear (s .args .p) (s .pre .0) _ (unit-bits rowWords 0 _ (c .flipped .ensures)))
 
 -- src/tausworthe.rt:37:1
 returns : tie.Need-returns
-returns c = let s = c .before .before .before in first1-is (s .args .p) (s .pre .0) _ _ _ (s .pre .1) (unit-bits 8 0 _ (c .before .flipped .ensures)) (c .steps-backed .ensures)
+returns c = let s = c .before .before .before in first1-is (s .args .p) (s .pre .0) _ _ _ (s .pre .1) (unit-bits rowWords 0 _ (c .before .flipped .ensures)) (c .steps-backed .ensures)
 
 pub first-row-spec : {M : Type 1} → statement M
 first-row-spec = tie.close (tie.spec flipped-requires steps-backed-requires returns)

@@ -1,3 +1,4 @@
+use Rattle.document.specs.Limits.{rowWords}
 use Rattle.rows.proofs.KindFour.{first4-is}
 use mathlib.Core.Path.{_≡_, refl, sym, ap, _∙_}
 use Prim.Native.Nat.{ℕ, zero, suc, _+_, _*_, _≤_, _<_, _-_}
@@ -21,7 +22,7 @@ placed-requires c κs = search needs
 
 -- src/twister.rt:25:1
 returns : tie.Need-returns
-returns c = let s = c .before .before in first4-is (s .args .p) (s .pre .0) 8 _ _ _ (s .pre .1) (c .before .first-word .ensures) (c .placed .ensures)
+returns c = let s = c .before .before in first4-is (s .args .p) (s .pre .0) rowWords _ _ _ (s .pre .1) (c .before .first-word .ensures) (c .placed .ensures)
 
 pub first-row-spec : {M : Type 1} → statement M
 first-row-spec = tie.close (tie.spec first-word-requires placed-requires returns)

@@ -1,3 +1,4 @@
+use Rattle.document.specs.Limits.{rowWords, coefficientBytes}
 use Rattle.running.proofs.Masks.{Laying, laying-start, laying-step, laying-end}
 use mathlib.Core.Path.{_≡_, refl, sym, ap, _∙_}
 use Prim.Native.Nat.{ℕ, zero, suc, _+_, _*_, _≤_, _<_, _-_}
@@ -13,14 +14,14 @@ use Rattle.states.proofs.placed.Reads as placed-reads
 use Rattle.states.proofs.words.mirrored.Reads as mirrored-reads
 
 abbrev Inv-loop : tie.InvT-loop
-Inv-loop c r₀ j₀ r j = (j ≤ 60) × Laying c r j
+Inv-loop c r₀ j₀ r j = (j ≤ coefficientBytes) × Laying c r j
 
 abbrev μ-loop : tie.MeasureT-loop
-μ-loop c r₀ j₀ r j = 60 - j
+μ-loop c r₀ j₀ r j = coefficientBytes - j
 
 -- src/preparing.rt:27:5
 loop-holds : tie.Need-loop-holds Inv-loop μ-loop
-loop-holds c = (omega arith, laying-start 8 _)
+loop-holds c = (omega arith, laying-start rowWords _)
 
 -- src/preparing.rt:28:38
 array-read-wide : tie.Need-array-read-wide Inv-loop μ-loop
@@ -58,7 +59,7 @@ loop-again c =
 
 -- src/preparing.rt:23:1
 returns : tie.Need-returns Inv-loop μ-loop
-returns c = let e : c .before .loop .j ≡ 60 = omega arith in laying-end 60 _ _ (search needs) (rw e at (c .before .loop .inv .1))
+returns c = let e : c .before .loop .j ≡ coefficientBytes = omega arith in laying-end coefficientBytes _ _ (search needs) (rw e at (c .before .loop .inv .1))
 
 pub coefficient-mask-spec : {M : Type 1} → statement M
 coefficient-mask-spec =

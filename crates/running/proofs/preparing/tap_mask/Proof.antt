@@ -1,3 +1,4 @@
+use Rattle.document.specs.Limits.{rowWords}
 use Rattle.running.proofs.Masks.{Tapping, tapping-start, tapping-step, tapping-end}
 use mathlib.Core.Path.{_≡_, refl, sym, ap, _∙_}
 use Prim.Native.Nat.{ℕ, zero, suc, _+_, _*_, _≤_, _<_, _-_}
@@ -24,7 +25,7 @@ flipped-requires c κs = search needs
 
 -- src/preparing.rt:42:5
 loop-holds : tie.Need-loop-holds Inv-loop μ-loop
-loop-holds c = (omega arith, tapping-start 8 _ _ _ (c .flipped .ensures))
+loop-holds c = (omega arith, tapping-start rowWords _ _ _ (c .flipped .ensures))
 
 -- src/preparing.rt:43:13
 word-at-requires : tie.Need-word-at-requires Inv-loop μ-loop
