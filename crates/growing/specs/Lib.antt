@@ -1,2 +1,0 @@
--- What the contracts of `growing` cite.
-pub mod Grown

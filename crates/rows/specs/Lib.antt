@@ -1,0 +1,3 @@
+-- What the contracts of `rows` cite (Post), and what callers conclude from them (Theorems).
+pub mod Post
+pub mod Theorems

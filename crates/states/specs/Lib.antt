@@ -1,0 +1,2 @@
+-- What the contracts of `states` cite.
+pub mod Post
