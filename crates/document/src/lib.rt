@@ -14,6 +14,11 @@ pub const MOST_OUTPUT: usize = 32;
 // The bytes of the coefficients in a description.
 pub const COEFFICIENT_BYTES: usize = 60;
 
+// A dimension t and a resolution l: two sorts of count, so that (t, l) never turns into (l, t).
+pub struct Dimension(pub usize);
+
+pub struct Resolution(pub usize);
+
 // The kind and the body's fields of a description; those of other kinds are zero.
 #[repr(C)]
 pub struct Fields {
