@@ -1,21 +1,20 @@
 -- The proofs that what is prepared keeps its ranges, and stands for the machine of the description.
 use mathlib.Core.Path.{_≡_, refl, sym, ap, ap₂, subst, _∙_}
-use mathlib.Core.Bool.{Bool, true, false}
+use mathlib.Core.Bool.{true}
 use mathlib.Core.Logic.{by-cases}
 use native.Mathlib.Decide.{ℕ-discrete}
-use Prim.Native.Nat.{ℕ, suc, _+_, _-_, _*_, _≤_, _<_, _^_}
+use Prim.Native.Nat.{ℕ, suc, _-_, _*_, _≤_, _<_, _^_}
 use native.Mathlib.Omega.{arith}
-use Rattle.digits.specs.Def.{Word, Same, Clear, digit, bitsOf, wordOf}
-use Rattle.kinds.specs.Generator.{Machine, tausworthe, gfsr, twisted, mersenne}
+use Rattle.digits.specs.Def.{Word, Same, Clear, digit, bitsOf}
+use Rattle.kinds.specs.Generator.{Machine, tausworthe, gfsr, mersenne}
 use Rattle.kinds.specs.Transpose.{taps}
 use Rattle.kinds.specs.Adjoint.{taps-below, taps-at, taps-past}
 use Rattle.kinds.specs.Alike.{Alike, tausworthe-alike, gfsr-alike, mersenne-alike, twisted-alike}
 use Rattle.document.specs.declared.Fields.{Fields}
 use Rattle.document.specs.Generator.{machine, coefficient}
 use Rattle.document.specs.Ranges.{Accepted, WordRanges, Ranges1, TwistRanges, is-one, is-two, is-three, is-four, cases}
-use Rattle.states.specs.Post.{Holds}
 use Rattle.running.specs.declared.Prepared.{Prepared}
-use Rattle.running.specs.Prepared.{tapped, machine1, machine2, machine4, kindOf, machineOf, Mask, Words, Ready, Ready1, Ready2, Ready4, PreparedFor, Prepared1, Prepared2, Prepared4}
+use Rattle.running.specs.Prepared.{tapped, machine1, machine2, machine4, kindOf, machineOf, Words, Ready, Ready1, Ready2, Ready4, PreparedFor, Prepared1, Prepared2, Prepared4}
 use Rattle.running.specs.Kinds.{kind-one, kind-two, kind-other}
 
 -- ---- the ranges

@@ -1,11 +1,11 @@
 -- What callers conclude from the contracts of `prepare`, `moved` and `output`.
-use mathlib.Core.Path.{_≡_, refl, sym, ap, ap₂, _∙_}
+use mathlib.Core.Path.{_≡_, refl, ap, ap₂, _∙_}
 use mathlib.Core.Bool.{cond}
 use mathlib.Core.List.{List}
-use Prim.Native.Nat.{ℕ, zero, suc, _+_, _*_, _≤_, _<_}
+use Prim.Native.Nat.{ℕ, zero, suc, _+_, _*_}
 use native.Mathlib.Omega.{arith}
 use Rattle.digits.specs.Def.{Word, Same, bitsOf, numberOf}
-use Rattle.kinds.specs.Generator.{Machine, times, outputBit}
+use Rattle.kinds.specs.Generator.{times, outputBit}
 use Rattle.kinds.specs.Alike.{Alike}
 use Rattle.document.specs.declared.Fields.{Fields}
 use Rattle.document.specs.Generator.{machine, size}
