@@ -5,13 +5,13 @@ use mathlib.Core.Logic.{by-cases}
 use native.Mathlib.Decide.{ℕ-discrete}
 use Prim.Native.Nat.{ℕ, zero, suc, _+_, _-_, _*_, _≤_, _<_}
 use native.Mathlib.Omega.{arith}
-use lib.Dec.{ltb, eqb}
+use lib.Dec.{ltb}
 use borrow.Author.Tests.{lt-ltb, le-ltb, eq-eqb, ne-eqb}
 use Rattle.theory.specs.Def.{_⊕_, xorsum, unit, pair}
-use Rattle.theory.specs.Laws.{⊕-self, ⊕-false, ⊕-comm, xor-ac, xorsum-cong, xorsum-none}
+use Rattle.theory.specs.Laws.{⊕-self, ⊕-comm, xor-ac, xorsum-cong, xorsum-none}
 use Rattle.theory.specs.Sums.{xorsum-head, xorsum-rev, xorsum-times, unit-other, pair-sum, pair-sum-r, pair-comm, pair-same, pair-none, pair-append, pair-cut, pair-scale, pair-unit, pair-rows}
 use Rattle.digits.specs.Def.{Word, Same, Clear}
-use Rattle.kinds.specs.Generator.{Machine, times, _⊻_, masked, right, left, join, twist, addLeft, addRight, temper3, temper4, nextBit, stepped, word, enter, next2, next4, tausworthe, gfsr, mersenne}
+use Rattle.kinds.specs.Generator.{times, _⊻_, masked, right, left, join, twist, addLeft, addRight, temper3, temper4, nextBit, stepped, word, enter, next2, next4, tausworthe, gfsr, mersenne}
 use Rattle.kinds.specs.Reads.{same-cond, same-sum, same-left, same-right, word-in}
 use Rattle.kinds.specs.Recurrence.{times-first}
 use Rattle.kinds.specs.Transpose.{place, down, taps, back1, first1, back2, untwist, back4, unRight, unLeft, first4, Transposed}

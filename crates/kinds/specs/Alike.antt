@@ -1,10 +1,10 @@
 -- Two machines that are the same on the bits that count: their outputs are the same from every start state, for every n.
-use mathlib.Core.Path.{_≡_, refl, sym, ap, _∙_}
-use Prim.Native.Nat.{ℕ, suc, _+_, _-_, _*_, _≤_, _<_}
+use mathlib.Core.Path.{_≡_, refl, _∙_}
+use Prim.Native.Nat.{ℕ, _-_, _*_, _≤_, _<_}
 use native.Mathlib.Omega.{arith}
 use Rattle.digits.specs.Def.{Word, Same}
-use Rattle.kinds.specs.Generator.{Machine, times, outputBit, temper3, temper4, stepped, word, enter, next2, next3, next4, tausworthe, gfsr, twisted, mersenne}
-use Rattle.kinds.specs.Reads.{same-times, same-stepped, same-enter, same-next2, same-next4, same-temper3, same-temper4, same-word, word-in, three-is-four, tempers-alike}
+use Rattle.kinds.specs.Generator.{Machine, outputBit, stepped, word, tausworthe, gfsr, twisted, mersenne}
+use Rattle.kinds.specs.Reads.{same-times, same-stepped, same-enter, same-next2, same-next4, same-temper4, same-word, word-in, three-is-four, tempers-alike}
 
 pub record Alike (M N : Machine) : Type 0 where
   pub size : M .size ≡ N .size

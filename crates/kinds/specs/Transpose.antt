@@ -1,7 +1,7 @@
 -- Moves and outputs transposed. Definitions only; what is proved of them stands in Rows.antt.
 -- A row ρ stands for the sum of the bits of a state that it names; `back ρ` stands for that sum after a move, and `first j` for bit j of the output.
 use mathlib.Core.Path.{_≡_}
-use mathlib.Core.Bool.{Bool, true, false, _&&_, cond}
+use mathlib.Core.Bool.{false, _&&_, cond}
 use Prim.Native.Nat.{ℕ, suc, _+_, _-_, _*_, _<_}
 use lib.Dec.{ltb, eqb}
 use Rattle.theory.specs.Def.{xorsum, unit, pair}

@@ -1,18 +1,17 @@
 -- Kinds 3 and 4: the tempering and the move transposed.
-use mathlib.Core.Path.{_≡_, refl, sym, ap, ap₂, subst, _∙_}
-use mathlib.Core.Bool.{Bool, true, false, _&&_}
+use mathlib.Core.Path.{_≡_, sym, ap, ap₂, subst, _∙_}
 use mathlib.Core.List.{List}
 use mathlib.Core.Logic.{by-cases}
 use native.Mathlib.Decide.{ℕ-discrete}
-use Prim.Native.Nat.{ℕ, suc, _+_, _-_, _*_, _/_, _%_, _^_, _≤_, _<_}
-use native.Mathlib.Nat.{mod-lt, one-mul}
+use Prim.Native.Nat.{ℕ, _+_, _-_, _*_, _/_, _%_, _^_, _≤_, _<_}
+use native.Mathlib.Nat.{one-mul}
 use native.Mathlib.Omega.{arith}
 use lib.Dec.{lit<}
 use lib.ListN.{replicate}
 use lib.Pow.{pow-lt, shl-exact}
 use Rattle.theory.specs.Def.{_⊕_, unit}
 use Rattle.theory.specs.Sums.{unit-at, unit-other}
-use Rattle.digits.specs.Def.{Word, Same, Clear, digit, bitsOf}
+use Rattle.digits.specs.Def.{Same, Clear, digit, bitsOf}
 use Rattle.digits.specs.Laws.{digit-mod, digit-shr}
 use Rattle.kinds.specs.Generator.{_⊻_, mersenne}
 use Rattle.kinds.specs.Transpose.{down, place, untwist, unLeft, unRight, first4, back4}

@@ -1,14 +1,14 @@
 -- Kind 2: the first word added at each word that has its coefficient.
-use mathlib.Core.Path.{_≡_, refl, sym, ap, ap₂, subst, _∙_}
+use mathlib.Core.Path.{_≡_, sym, ap, ap₂, subst, _∙_}
 use mathlib.Core.Bool.{Bool, true, false, _&&_}
 use mathlib.Core.List.{List}
-use Prim.Native.Nat.{ℕ, suc, _+_, _-_, _*_, _≤_, _<_}
+use Prim.Native.Nat.{ℕ, _+_, _*_, _≤_, _<_}
 use native.Mathlib.Nat.{mul-le-mul-left}
 use native.Mathlib.Numerals.{add-one}
 use native.Mathlib.Omega.{arith}
 use Rattle.theory.specs.Def.{_⊕_, xorsum, unit}
 use Rattle.theory.specs.Laws.{⊕-assoc, ⊕-false, xorsum-cong}
-use Rattle.digits.specs.Def.{Word, Same, Clear, digit, bitsOf}
+use Rattle.digits.specs.Def.{Same, Clear, digit, bitsOf}
 use Rattle.kinds.specs.Generator.{_⊻_, gfsr}
 use Rattle.kinds.specs.Transpose.{down, place, back2}
 use Rattle.kinds.specs.Rows.{gfsr-rows}
@@ -22,9 +22,9 @@ use Rattle.rows.specs.Post.{FirstRow, BackRow}
 use Rattle.rows.proofs.Laws.{from-first, from-back}
 
 -- a choice that was made
-module _ (b : Bool) (r d : List ℕ) (pos n y : ℕ) where
-  pub chosen : b ≡ true → ((i : ℕ) → bitsOf r i ≡ bitsOf d i ⊕ place pos n (digit y) i) → (i : ℕ) → bitsOf r i ≡ bitsOf d i ⊕ b && place pos n (digit y) i
-  chosen e f i = rw e (f i)
+module _ (b : Bool) (d : List ℕ) (pos n y : ℕ) where
+  pub chosen : (r : List ℕ) → b ≡ true → ((i : ℕ) → bitsOf r i ≡ bitsOf d i ⊕ place pos n (digit y) i) → (i : ℕ) → bitsOf r i ≡ bitsOf d i ⊕ b && place pos n (digit y) i
+  chosen r e f i = rw e (f i)
 
   pub not-chosen : b ≡ false → (i : ℕ) → bitsOf d i ≡ bitsOf d i ⊕ b && place pos n (digit y) i
   not-chosen e i = rw e (sym (⊕-false (bitsOf d i)))

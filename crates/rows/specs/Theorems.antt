@@ -1,15 +1,14 @@
 -- What callers conclude from the contracts of `first_row` and `backed`: rows built one from another are the output bits of the description's machine.
-use mathlib.Core.Path.{_≡_, refl, sym, ap, ap₂, subst, _∙_}
+use mathlib.Core.Path.{_≡_, refl, sym, ap, subst, _∙_}
 use mathlib.Core.List.{List}
 use Prim.Native.Nat.{ℕ, _-_, _/_, _%_, _≤_, _<_}
 use native.Mathlib.Nat.{mod-lt, lt-of-lt-of-le}
-use native.Mathlib.Omega.{arith}
 use Rattle.theory.specs.Def.{pair, Bits, bit}
 use Rattle.theory.specs.Sums.{pair-same}
-use Rattle.digits.specs.Def.{Word, Same, Clear, bitsOf}
-use Rattle.kinds.specs.Generator.{Machine, outputBit}
+use Rattle.digits.specs.Def.{Word, Clear, bitsOf}
+use Rattle.kinds.specs.Generator.{Machine}
 use Rattle.kinds.specs.Rows.{bit-first, bit-next}
-use Rattle.kinds.specs.Alike.{Alike, alike-output}
+use Rattle.kinds.specs.Alike.{alike-output}
 use Rattle.document.specs.declared.Fields.{Fields}
 use Rattle.document.specs.Generator.{machine}
 use Rattle.document.specs.Ranges.{Accepted}

@@ -1,11 +1,11 @@
 -- Kinds 3 and 4: the new word, and the tempering.
-use mathlib.Core.Path.{_≡_, refl, sym, ap, ap₂, _∙_}
+use mathlib.Core.Path.{_≡_, refl, ap, ap₂, _∙_}
 use mathlib.Core.List.{List}
-use Prim.Native.Nat.{ℕ, zero, suc, _+_, _-_, _*_, _^_, _≤_, _<_}
+use Prim.Native.Nat.{ℕ, _+_, _-_, _*_, _≤_}
 use native.Mathlib.Omega.{arith}
 use lib.Bits.{bitXor, xor-lt}
 use Rattle.theory.specs.Def.{_⊕_}
-use Rattle.digits.specs.Def.{Word, Same, digit, bitsOf, wordOf, numberOf}
+use Rattle.digits.specs.Def.{Same, digit, bitsOf, wordOf, numberOf}
 use Rattle.digits.specs.Laws.{digit-xor}
 use Rattle.kinds.specs.Generator.{_⊻_, word, join, twist, addLeft, addRight, next4, temper3, temper4, enter, mersenne}
 use Rattle.kinds.specs.Reads.{same-twist, same-join, same-addLeft, same-addRight}

@@ -4,8 +4,8 @@ use mathlib.Core.Bool.{Bool, true, false, not, _&&_, cond}
 use mathlib.Core.List.{List}
 use mathlib.Core.Logic.{by-cases}
 use native.Mathlib.Decide.{decLt}
-use Prim.Native.Nat.{ℕ, zero, suc, _+_, _-_, _*_, _/_, _%_, _^_, _≤_, _<_}
-use native.Mathlib.Nat.{lt-of-lt-of-le, le-of-lt}
+use Prim.Native.Nat.{ℕ, suc, _+_, _-_, _*_, _/_, _%_, _^_, _≤_, _<_}
+use native.Mathlib.Nat.{lt-of-lt-of-le}
 use native.Mathlib.Numerals.{add-one}
 use native.Mathlib.Omega.{arith}
 use lib.Pow.{pow-mono}
@@ -14,13 +14,12 @@ use borrow.Author.Tests.{lt-ltb, le-ltb}
 use Rattle.theory.specs.Def.{_⊕_, xorsum, pair}
 use Rattle.theory.specs.Laws.{⊕-same}
 use Rattle.theory.specs.Sums.{pair-same, pair-cut}
-use Rattle.digits.specs.Def.{Word, Same, Clear, digit, nonzero, bitsOf, numberOf}
+use Rattle.digits.specs.Def.{Word, Same, Clear, digit, bitsOf, numberOf}
 use Rattle.kinds.specs.Generator.{nextBit, stepped, times}
 use Rattle.kinds.specs.Reads.{same-stepped}
 use Rattle.kinds.specs.Transpose.{down, taps}
 use Rattle.kinds.specs.Adjoint.{taps-sum}
 use Rattle.states.specs.Post.{Flipped, stateBits}
-use Rattle.document.specs.Limits.{mostBits}
 use Rattle.running.specs.Prepared.{Mask, Stepped, tapped}
 use Rattle.running.proofs.Numbers.{bit-number, number-lt}
 

@@ -1,17 +1,17 @@
 -- The masks that a description's coefficients are laid in.
 use mathlib.Core.Path.{_≡_, refl, sym, ap, ap₂, _∙_}
-use mathlib.Core.Bool.{Bool, true, false, not, cond}
+use mathlib.Core.Bool.{false, not, cond}
 use mathlib.Core.List.{List}
 use mathlib.Core.Logic.{by-cases}
 use native.Mathlib.Decide.{decLt, ℕ-discrete}
-use Prim.Native.Nat.{ℕ, zero, suc, _+_, _-_, _*_, _/_, _%_, _^_, _≤_, _<_}
+use Prim.Native.Nat.{ℕ, zero, suc, _+_, _-_, _*_, _/_, _%_, _≤_, _<_}
 use native.Mathlib.Omega.{arith}
 use lib.Dec.{ltb}
 use lib.ListN.{getD, length, replicate, List·getD-eq-default}
 use borrow.Author.Tests.{lt-ltb, le-ltb}
 use Rattle.theory.specs.Def.{_⊕_}
 use Rattle.theory.specs.Laws.{⊕-false}
-use Rattle.digits.specs.Def.{Word, Same, Clear, digit, bitsOf, wordOf}
+use Rattle.digits.specs.Def.{Word, Clear, digit, bitsOf, wordOf}
 use Rattle.digits.specs.Laws.{digit-zero}
 use Rattle.kinds.specs.Transpose.{place, taps}
 use Rattle.kinds.specs.Adjoint.{place-below, place-from, place-past, taps-below, taps-at, taps-past}

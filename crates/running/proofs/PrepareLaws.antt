@@ -1,6 +1,6 @@
 -- What is prepared of each kind is what the description says.
-use mathlib.Core.Path.{_≡_, refl, sym, ap, ap₂, _∙_}
-use Prim.Native.Nat.{ℕ, suc, _+_, _-_, _*_, _≤_, _<_}
+use mathlib.Core.Path.{_≡_}
+use Prim.Native.Nat.{ℕ, _*_, _≤_}
 use native.Mathlib.Omega.{arith}
 use Rattle.document.specs.declared.Fields.{Fields}
 use Rattle.document.specs.Ranges.{Accepted}

@@ -1,6 +1,5 @@
 -- Which of the machines a kind picks.
-use mathlib.Core.Path.{_≡_, refl}
-use lib.Dec.{eqb}
+use mathlib.Core.Path.{_≡_}
 use borrow.Author.Tests.{eq-eqb, ne-eqb}
 use Rattle.running.specs.declared.Prepared.{Prepared}
 use Rattle.running.specs.Prepared.{machine1, machine2, machine4, kindOf}

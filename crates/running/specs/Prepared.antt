@@ -1,10 +1,10 @@
 -- A prepared generator: the machine that its numbers stand for, the ranges that they keep, and what `prepare` makes them of a description.
 use mathlib.Core.Path.{_≡_}
-use mathlib.Core.Bool.{Bool, true, false, cond}
+use mathlib.Core.Bool.{true, cond}
 use mathlib.Core.List.{List}
-use Prim.Native.Nat.{ℕ, suc, _+_, _-_, _*_, _<_, _≤_, _^_}
+use Prim.Native.Nat.{ℕ, suc, _-_, _*_, _<_, _≤_, _^_}
 use lib.Dec.{eqb}
-use Rattle.digits.specs.Def.{Word, Same, Clear, digit, bitsOf, wordOf, numberOf}
+use Rattle.digits.specs.Def.{Word, Same, Clear, digit, bitsOf, wordOf}
 use Rattle.kinds.specs.Generator.{Machine, stepped, times, tausworthe, gfsr, mersenne}
 use Rattle.kinds.specs.Transpose.{taps}
 use Rattle.document.specs.declared.Fields.{Fields}

@@ -1,21 +1,22 @@
 -- The proofs that what is prepared keeps its ranges, and stands for the machine of the description.
 use mathlib.Core.Path.{_≡_, refl, sym, ap, ap₂, subst, _∙_}
-use mathlib.Core.Bool.{Bool, true, false}
+use mathlib.Core.Bool.{true}
 use mathlib.Core.Logic.{by-cases}
 use native.Mathlib.Decide.{ℕ-discrete}
-use Prim.Native.Nat.{ℕ, suc, _+_, _-_, _*_, _≤_, _<_, _^_}
+use Prim.Native.Nat.{ℕ, suc, _-_, _*_, _≤_, _<_, _^_}
 use native.Mathlib.Omega.{arith}
-use Rattle.digits.specs.Def.{Word, Same, Clear, digit, bitsOf, wordOf}
-use Rattle.kinds.specs.Generator.{Machine, tausworthe, gfsr, twisted, mersenne}
+use Rattle.digits.specs.Def.{Word, Same, Clear, digit, bitsOf}
+use Rattle.kinds.specs.Generator.{Machine, tausworthe, gfsr, mersenne}
+use Rattle.kinds.specs.Reads.{LocalMachine}
+use Rattle.kinds.specs.Theorems.{tausworthe-local, gfsr-local, mersenne-local}
 use Rattle.kinds.specs.Transpose.{taps}
 use Rattle.kinds.specs.Adjoint.{taps-below, taps-at, taps-past}
 use Rattle.kinds.specs.Alike.{Alike, tausworthe-alike, gfsr-alike, mersenne-alike, twisted-alike}
 use Rattle.document.specs.declared.Fields.{Fields}
 use Rattle.document.specs.Generator.{machine, coefficient}
 use Rattle.document.specs.Ranges.{Accepted, WordRanges, Ranges1, TwistRanges, is-one, is-two, is-three, is-four, cases}
-use Rattle.states.specs.Post.{Holds}
 use Rattle.running.specs.declared.Prepared.{Prepared}
-use Rattle.running.specs.Prepared.{tapped, machine1, machine2, machine4, kindOf, machineOf, Mask, Words, Ready, Ready1, Ready2, Ready4, PreparedFor, Prepared1, Prepared2, Prepared4}
+use Rattle.running.specs.Prepared.{tapped, machine1, machine2, machine4, kindOf, machineOf, Words, Ready, Ready1, Ready2, Ready4, PreparedFor, Prepared1, Prepared2, Prepared4}
 use Rattle.running.specs.Kinds.{kind-one, kind-two, kind-other}
 
 -- ---- the ranges
@@ -148,3 +149,23 @@ module _ (g : Fields) (p : Prepared) (x : Accepted g) (y : PreparedFor g p) wher
 
   pub prepared-alike : Alike (machineOf p) (machine g)
   prepared-alike = cases g x as-one as-two as-three as-four
+
+-- ---- bits from k on play no part
+
+local-carried : (p : Prepared) (M : Machine) → kindOf p ≡ M → M .size ≡ p .k → M .width ≡ p .bits → LocalMachine M → LocalMachine (machineOf p)
+local-carried p M q e f a =
+    let known : (s t : Word) → Same (p .k) s t → Same (M .size) s t = λ s t. subst (λ n. Same n s t) (sym e) in
+    record {
+      move = λ s t h. subst (λ K. Same (p .k) (K .move s) (K .move t)) (sym q) (subst (λ n. Same n (M .move s) (M .move t)) e (a .move s t (known s t h)));
+      out = λ s t h. subst (λ K. Same (p .bits) (K .out s) (K .out t)) (sym q) (subst (λ n. Same n (M .out s) (M .out t)) f (a .out s t (known s t h)));
+    }
+
+pub ready-local : (p : Prepared) → Ready p → LocalMachine (machineOf p)
+unfolding tausworthe gfsr mersenne
+ready-local p x =
+    by-cases (ℕ-discrete (p .kind) 1)
+    (λ e. local-carried p (machine1 p) (kind-one p e) refl refl (tausworthe-local _ _ _ _ (x .one e .mask .least)))
+    (λ n. by-cases (ℕ-discrete (p .kind) 2)
+    (λ e. let y = x .two e in local-carried p (machine2 p) (kind-two p n e) (sym (y .size)) refl (gfsr-local _ _ _ _ (y .words .some) (y .words .bits)))
+    (λ o. let y = x .other n o in
+    local-carried p (machine4 p) (kind-other p n o) (sym (y .size)) refl (mersenne-local _ _ _ _ _ _ _ _ _ _ _ _ (y .back) (y .few) (y .part) (y .words .bits))))

@@ -1,12 +1,13 @@
 -- What callers conclude from the contracts of `prepare`, `moved` and `output`.
-use mathlib.Core.Path.{_≡_, refl, sym, ap, ap₂, _∙_}
+use mathlib.Core.Path.{_≡_, refl, ap, ap₂, _∙_}
 use mathlib.Core.Bool.{cond}
 use mathlib.Core.List.{List}
-use Prim.Native.Nat.{ℕ, zero, suc, _+_, _*_, _≤_, _<_}
+use Prim.Native.Nat.{ℕ, zero, suc, _+_, _*_}
 use native.Mathlib.Omega.{arith}
 use Rattle.digits.specs.Def.{Word, Same, bitsOf, numberOf}
 use Rattle.kinds.specs.Generator.{Machine, times, outputBit}
-use Rattle.kinds.specs.Alike.{Alike}
+use Rattle.kinds.specs.Alike.{Alike, alike-output}
+use Rattle.kinds.specs.Reads.{LocalMachine}
 use Rattle.document.specs.declared.Fields.{Fields}
 use Rattle.document.specs.Generator.{machine, size}
 use Rattle.document.specs.Ranges.{Accepted}
@@ -14,6 +15,11 @@ use Rattle.document.specs.Outputs.{output}
 use Rattle.running.specs.declared.Prepared.{Prepared}
 use Rattle.running.specs.Prepared.{Ready, PreparedFor, machineOf}
 use Rattle.running.specs.Ready as R
+
+same-bits : (m : ℕ) (x y : Word) → Same m x y → numberOf m x ≡ numberOf m y
+unfolding numberOf
+same-bits zero x y h = refl
+same-bits (suc m) x y h = ap₂ (λ a b. 2 * a + cond b 1 0) (same-bits m x y (λ j l. h j (omega arith))) (h m (omega arith))
 
 -- ---- a prepared generator
 
@@ -31,33 +37,35 @@ prepared-size g p x y = R.prepared-alike g p x y .size
 pub prepared-width : (g : Fields) (p : Prepared) → Accepted g → PreparedFor g p → p .bits ≡ machine g .width
 prepared-width g p x y = R.prepared-alike g p x y .width
 
--- ---- a run: t is the state n moves after s
+-- a run may be told of in terms of the prepared generator alone: its outputs are the document's
+pub prepared-output : (g : Fields) (p : Prepared) → Accepted g → PreparedFor g p → (n : ℕ) (s : Word) → output (machineOf p) n s ≡ output (machine g) n s
+unfolding output
+prepared-output g p x y n s =
+    let a = R.prepared-alike g p x y in
+    ap (λ k. numberOf k (λ j. outputBit (machineOf p) n j s)) (a .width)
+    ∙ same-bits (machine g .width) _ _ (λ j h. alike-output (machineOf p) (machine g) a n j h s s (λ _ _. refl))
 
-pub record After (g : Fields) (n : ℕ) (s t : List ℕ) : Type 0 where
-  pub bits : Same (size g) (bitsOf t) (times n (machine g .move) (bitsOf s))
+-- bits of the state from k on play no part
+pub ready-local : (p : Prepared) → Ready p → LocalMachine (machineOf p)
+ready-local = R.ready-local
+
+-- ---- a run of a machine: t is the state n moves after s
+
+pub record After (M : Machine) (n : ℕ) (s t : List ℕ) : Type 0 where
+  pub bits : Same (M .size) (bitsOf t) (times n (M .move) (bitsOf s))
 
 -- the start state itself: output 0 is made from it
-pub after-none : (g : Fields) (s : List ℕ) → After g 0 s s
+pub after-none : (M : Machine) (s : List ℕ) → After M 0 s s
 unfolding times
-after-none g s = record { bits = λ _ _. refl }
+after-none M s = record { bits = λ _ _. refl }
 
-same-bits : (m : ℕ) (x y : Word) → Same m x y → numberOf m x ≡ numberOf m y
-unfolding numberOf
-same-bits zero x y h = refl
-same-bits (suc m) x y h = ap₂ (λ a b. 2 * a + cond b 1 0) (same-bits m x y (λ j l. h j (omega arith))) (h m (omega arith))
-
-same-number : (n m : ℕ) (x y : Word) → n ≡ m → Same m x y → numberOf n x ≡ numberOf m y
-same-number n m x y e h = ap (λ k. numberOf k x) e ∙ same-bits m x y h
-
-module _ (g : Fields) (p : Prepared) (x : Accepted g) (y : PreparedFor g p) (n : ℕ) (s t : List ℕ) (a : After g n s t) where
+module _ (M : Machine) (l : LocalMachine M) (n : ℕ) (s t : List ℕ) (a : After M n s t) where
   -- one more `moved`
-  pub after-more : (u : List ℕ) → Same (p .k) (bitsOf u) (machineOf p .move (bitsOf t)) → After g (suc n) s u
+  pub after-more : (u : List ℕ) → Same (M .size) (bitsOf u) (M .move (bitsOf t)) → After M (suc n) s u
   unfolding times
-  after-more u h =
-      let b = R.prepared-alike g p x y in
-      record { bits = λ i l. h i (rw (b .size) l) ∙ b .move _ _ (a .bits) i l }
+  after-more u h = record { bits = λ i o. h i o ∙ l .move _ _ (a .bits) i o }
 
-  -- `output` then gives output n of the document
-  pub after-output : (r : ℕ) → r ≡ numberOf (p .bits) (machineOf p .out (bitsOf t)) → r ≡ output (machine g) n (bitsOf s)
+  -- `output` then gives output n
+  pub after-output : (r : ℕ) → r ≡ numberOf (M .width) (M .out (bitsOf t)) → r ≡ output M n (bitsOf s)
   unfolding output outputBit
-  after-output r e = e ∙ same-number (p .bits) (machine g .width) _ _ (R.prepared-alike g p x y .width) (R.prepared-alike g p x y .out _ _ (a .bits))
+  after-output r e = e ∙ same-bits (M .width) _ _ (l .out _ _ (a .bits))

@@ -1,10 +1,10 @@
 -- What the leaves on states do to bits.
-use mathlib.Core.Path.{_≡_, refl, sym, ap, ap₂, _∙_, fun-ext}
-use mathlib.Core.Bool.{Bool, true, false, not, _&&_, cond}
+use mathlib.Core.Path.{_≡_, sym, ap, ap₂, _∙_, fun-ext}
+use mathlib.Core.Bool.{Bool, true, false, _&&_, cond}
 use mathlib.Core.List.{List}
 use mathlib.Core.Logic.{by-cases, _⊎_, inl, inr}
 use native.Mathlib.Decide.{decLt, ℕ-discrete}
-use Prim.Native.Nat.{ℕ, zero, suc, _+_, _-_, _*_, _/_, _%_, _^_, _≤_, _<_}
+use Prim.Native.Nat.{ℕ, suc, _+_, _-_, _*_, _/_, _%_, _^_, _≤_, _<_}
 use native.Mathlib.Nat.{mod-lt, lt-of-le-of-lt}
 use native.Mathlib.Omega.{arith}
 use lib.Bits.{bitXor, bitAnd, xor-lt, and-le-r}
@@ -17,7 +17,7 @@ use borrow.Author.Tests.{lt-ltb, le-ltb}
 use Rattle.theory.specs.Def.{_⊕_, xorsum}
 use Rattle.theory.specs.Laws.{⊕-false, ⊕-comm, xorsum-⊕, xorsum-cong, xorsum-none}
 use Rattle.theory.specs.Sums.{xorsum-append}
-use Rattle.digits.specs.Def.{Word, Same, digit, bitsOf}
+use Rattle.digits.specs.Def.{digit, bitsOf}
 use Rattle.digits.specs.Laws.{digit-xor, digit-and, digit-shr, digit-shl, digit-shl-below, digit-mod, digit-past, digit-zero}
 use Rattle.digits.specs.Parity.{parity-test}
 use Rattle.kinds.specs.Generator.{enter}

@@ -13,7 +13,7 @@ use lib.Count.{ones}
 use borrow.Author.Tests.{lt-ltb, le-ltb, eq-eqb, ne-eqb, ltb-true, eqb-true, not-false}
 use Rattle.theory.specs.Def.{_⊕_, xorsum}
 use Rattle.theory.specs.Laws.{⊕-false, xor-ac, xorsum-cong, and-true-l, and-true-r}
-use Rattle.digits.specs.Def.{Word, Same, digit, wordOf}
+use Rattle.digits.specs.Def.{digit, wordOf}
 use Rattle.digits.specs.Laws.{digit-xor, digit-and, digit-shr, digit-shl, digit-shl-below, digit-mod, digit-mod-past, digit-past}
 use Rattle.digits.specs.Parity.{parity-test}
 use Rattle.kinds.specs.Generator.{_⊻_, right, left, masked, join, twist, addLeft, addRight}

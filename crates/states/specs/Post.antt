@@ -1,8 +1,8 @@
 -- What the leaves give. A word of w bits is held mirrored in a number: its bit j, the first being bit 0, is worth 2 ^ j.
 use mathlib.Core.Path.{_≡_}
-use mathlib.Core.Bool.{Bool, true, false, not, _&&_, _||_, cond}
+use mathlib.Core.Bool.{Bool, true, not, _&&_, _||_, cond}
 use mathlib.Core.List.{List}
-use Prim.Native.Nat.{ℕ, zero, suc, _+_, _-_, _*_, _/_, _%_, _<_, _≤_, _^_}
+use Prim.Native.Nat.{ℕ, zero, suc, _+_, _-_, _*_, _/_, _%_, _<_, _^_}
 use lib.Dec.{eqb, ltb}
 use Rattle.digits.specs.Def.{Word, Same, digit, bitsOf}
 use Rattle.document.specs.Limits.{rowWords}

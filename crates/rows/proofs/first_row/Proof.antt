@@ -1,10 +1,5 @@
 use Rattle.rows.proofs.Laws.{first-carried, size-one, size-two, size-four}
 use Rattle.running.specs.Kinds.{kind-one, kind-two, kind-other}
-use mathlib.Core.Path.{_≡_, refl, sym, ap, _∙_}
-use Prim.Native.Nat.{ℕ, zero, suc, _+_, _*_, _≤_, _<_, _-_}
-use native.Mathlib.Omega.{arith}
-use lib.ListN.{length, getD, set, length-set}
-use borrow.Author.Needs.{needs}
 use Rattle.rows.proofs.first_row.Statement.{statement}
 use Rattle.rows.proofs.first_row.Tie as tie
 use Rattle.rows.proofs.first_row.Reads as reads

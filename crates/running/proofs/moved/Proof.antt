@@ -1,9 +1,4 @@
 use Rattle.running.specs.Kinds.{kind-one, kind-two, kind-other}
-use mathlib.Core.Path.{_≡_, refl, sym, ap, _∙_}
-use Prim.Native.Nat.{ℕ, zero, suc, _+_, _*_, _≤_, _<_, _-_}
-use native.Mathlib.Omega.{arith}
-use lib.ListN.{length, getD, set, length-set}
-use borrow.Author.Needs.{needs}
 use Rattle.running.proofs.moved.Statement.{statement}
 use Rattle.running.proofs.moved.Tie as tie
 use Rattle.running.proofs.moved.Reads as reads

@@ -1,9 +1,7 @@
 use Rattle.running.proofs.PrepareLaws.{last-kind}
 use Rattle.running.proofs.PrepareLaws.{for-one, for-two, for-three, for-four}
-use mathlib.Core.Path.{_≡_, refl, sym, ap, _∙_}
-use Prim.Native.Nat.{ℕ, zero, suc, _+_, _*_, _≤_, _<_, _-_}
+use mathlib.Core.Path.{refl}
 use native.Mathlib.Omega.{arith}
-use lib.ListN.{length, getD, set, length-set}
 use borrow.Author.Needs.{needs}
 use Rattle.running.proofs.prepare.Statement.{statement}
 use Rattle.running.proofs.prepare.Tie as tie

@@ -1,9 +1,8 @@
 use Rattle.document.specs.Limits.{rowWords}
 use Rattle.states.proofs.StateLaws.{Adding, adding-start, adding-step, adding-end}
-use mathlib.Core.Path.{_≡_, refl, sym, ap, _∙_}
-use Prim.Native.Nat.{ℕ, zero, suc, _+_, _*_, _≤_, _<_, _-_}
+use mathlib.Core.Path.{_≡_, refl}
+use Prim.Native.Nat.{_≤_, _-_}
 use native.Mathlib.Omega.{arith}
-use lib.ListN.{length, getD, set, length-set}
 use borrow.Author.Needs.{needs}
 use Rattle.states.proofs.added.Statement.{statement}
 use Rattle.states.proofs.added.Tie as tie

@@ -1,9 +1,5 @@
 use Rattle.digits.specs.Def.{bitsOf}
 use Rattle.digits.specs.Parity.{digit-test}
-use mathlib.Core.Path.{_≡_, refl, sym, ap, _∙_}
-use Prim.Native.Nat.{ℕ, zero, suc, _+_, _*_, _≤_, _<_, _-_}
-use native.Mathlib.Omega.{arith}
-use lib.ListN.{length, getD, set, length-set}
 use borrow.Author.Needs.{needs}
 use Rattle.states.proofs.bit_at.Statement.{statement}
 use Rattle.states.proofs.bit_at.Tie as tie

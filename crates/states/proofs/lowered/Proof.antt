@@ -2,12 +2,11 @@ use Rattle.document.specs.Limits.{rowWords}
 use lib.ListN.{replicate}
 use mir.Syntax.{w64}
 use mir.Val.{Fits}
-use mathlib.Core.List.{List}
 use Rattle.states.proofs.StateLaws.{Lowering, lowering-start, lowering-step, lowering-end}
-use mathlib.Core.Path.{_≡_, refl, sym, ap, _∙_}
-use Prim.Native.Nat.{ℕ, zero, suc, _+_, _*_, _≤_, _<_, _-_}
+use mathlib.Core.Path.{_≡_, refl}
+use Prim.Native.Nat.{_≤_, _-_}
 use native.Mathlib.Omega.{arith}
-use lib.ListN.{length, getD, set, length-set}
+use lib.ListN.{getD}
 use borrow.Author.Needs.{needs}
 use Rattle.states.proofs.lowered.Statement.{statement}
 use Rattle.states.proofs.lowered.Tie as tie

@@ -2,10 +2,10 @@ use Rattle.document.specs.Limits.{rowWords}
 use mir.Syntax.{w64}
 use mir.Val.{Fits}
 use Rattle.states.proofs.StateLaws.{Summing, summing-start, summing-step, summing-end}
-use mathlib.Core.Path.{_≡_, refl, sym, ap, _∙_}
-use Prim.Native.Nat.{ℕ, zero, suc, _+_, _*_, _≤_, _<_, _-_}
+use mathlib.Core.Path.{_≡_}
+use Prim.Native.Nat.{_≤_, _-_}
 use native.Mathlib.Omega.{arith}
-use lib.ListN.{length, getD, set, length-set}
+use lib.ListN.{getD}
 use borrow.Author.Needs.{needs}
 use Rattle.states.proofs.parity.Statement.{statement}
 use Rattle.states.proofs.parity.Tie as tie

@@ -1,9 +1,5 @@
 use Rattle.document.specs.Limits.{rowWords}
 use Rattle.states.proofs.StateLaws.{placed-one, placed-two}
-use mathlib.Core.Path.{_≡_, refl, sym, ap, _∙_}
-use Prim.Native.Nat.{ℕ, zero, suc, _+_, _*_, _≤_, _<_, _-_}
-use native.Mathlib.Omega.{arith}
-use lib.ListN.{length, getD, set, length-set}
 use borrow.Author.Needs.{needs}
 use Rattle.states.proofs.placed.Statement.{statement}
 use Rattle.states.proofs.placed.Tie as tie

@@ -2,10 +2,8 @@ use mir.Syntax.{w64}
 use mir.Val.{Fits}
 use Prim.Native.Nat.{_/_}
 use Rattle.states.proofs.StateLaws.{in-one, in-two}
-use mathlib.Core.Path.{_≡_, refl, sym, ap, _∙_}
-use Prim.Native.Nat.{ℕ, zero, suc, _+_, _*_, _≤_, _<_, _-_}
 use native.Mathlib.Omega.{arith}
-use lib.ListN.{length, getD, set, length-set}
+use lib.ListN.{getD}
 use borrow.Author.Needs.{needs}
 use Rattle.states.proofs.word_at.Statement.{statement}
 use Rattle.states.proofs.word_at.Tie as tie

@@ -1,9 +1,8 @@
 use Rattle.rows.proofs.KindTwo.{inside2}
 use Rattle.rows.proofs.KindTwo.{Laid, laid-start, laid-step, back2-is}
-use mathlib.Core.Path.{_≡_, refl, sym, ap, _∙_}
-use Prim.Native.Nat.{ℕ, zero, suc, _+_, _*_, _≤_, _<_, _-_}
+use mathlib.Core.Path.{_≡_}
+use Prim.Native.Nat.{_≤_, _-_}
 use native.Mathlib.Omega.{arith}
-use lib.ListN.{length, getD, set, length-set}
 use borrow.Author.Needs.{needs}
 use Rattle.rows.proofs.gfsr.backed.Statement.{statement}
 use Rattle.rows.proofs.gfsr.backed.Tie as tie

@@ -1,11 +1,7 @@
 use Rattle.document.specs.Limits.{rowWords}
 use Rattle.rows.proofs.Laws.{unit-bits}
 use Rattle.rows.proofs.KindTwo.{first2-is}
-use mathlib.Core.Path.{_≡_, refl, sym, ap, _∙_}
-use Prim.Native.Nat.{ℕ, zero, suc, _+_, _*_, _≤_, _<_, _-_}
 use native.Mathlib.Omega.{arith}
-use lib.ListN.{length, getD, set, length-set}
-use borrow.Author.Needs.{needs}
 use Rattle.rows.proofs.gfsr.first_row.Statement.{statement}
 use Rattle.rows.proofs.gfsr.first_row.Tie as tie
 use Rattle.rows.proofs.gfsr.first_row.Reads as reads

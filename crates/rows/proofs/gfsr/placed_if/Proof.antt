@@ -1,9 +1,4 @@
-use mathlib.Core.List.{[]}
 use Rattle.rows.proofs.KindTwo.{chosen, not-chosen}
-use mathlib.Core.Path.{_≡_, refl, sym, ap, _∙_}
-use Prim.Native.Nat.{ℕ, zero, suc, _+_, _*_, _≤_, _<_, _-_}
-use native.Mathlib.Omega.{arith}
-use lib.ListN.{length, getD, set, length-set}
 use borrow.Author.Needs.{needs}
 use Rattle.rows.proofs.gfsr.placed_if.Statement.{statement}
 use Rattle.rows.proofs.gfsr.placed_if.Tie as tie
@@ -21,7 +16,7 @@ returns c = chosen _ _ _ _ _ _ (c .before .if1 .taken) (c .placed .ensures)
 
 -- src/gfsr.rt:15:1
 returns-2 : tie.Need-returns-2
-returns-2 c = not-chosen _ [] _ _ _ _ (c .if1 .left)
+returns-2 c = not-chosen _ _ _ _ _ (c .if1 .left)
 
 pub placed-if-spec : {M : Type 1} → statement M
 placed-if-spec = tie.close (tie.spec placed-requires returns returns-2)

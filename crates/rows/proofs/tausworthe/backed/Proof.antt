@@ -1,8 +1,4 @@
 use Rattle.rows.proofs.KindOne.{back1-is}
-use mathlib.Core.Path.{_≡_, refl, sym, ap, _∙_}
-use Prim.Native.Nat.{ℕ, zero, suc, _+_, _*_, _≤_, _<_, _-_}
-use native.Mathlib.Omega.{arith}
-use lib.ListN.{length, getD, set, length-set}
 use borrow.Author.Needs.{needs}
 use Rattle.rows.proofs.tausworthe.backed.Statement.{statement}
 use Rattle.rows.proofs.tausworthe.backed.Tie as tie

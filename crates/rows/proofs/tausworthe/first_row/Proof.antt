@@ -1,10 +1,6 @@
 use Rattle.document.specs.Limits.{rowWords}
 use Rattle.rows.proofs.Laws.{unit-bits}
 use Rattle.rows.proofs.KindOne.{first1-is, unit-clear}
-use mathlib.Core.Path.{_≡_, refl, sym, ap, _∙_}
-use Prim.Native.Nat.{ℕ, zero, suc, _+_, _*_, _≤_, _<_, _-_}
-use native.Mathlib.Omega.{arith}
-use lib.ListN.{length, getD, set, length-set}
 use borrow.Author.Needs.{needs}
 use Rattle.rows.proofs.tausworthe.first_row.Statement.{statement}
 use Rattle.rows.proofs.tausworthe.first_row.Tie as tie

@@ -1,8 +1,5 @@
 use Rattle.rows.proofs.KindOne.{back-set, back-unset}
-use mathlib.Core.Path.{_≡_, refl, sym, ap, _∙_}
-use Prim.Native.Nat.{ℕ, zero, suc, _+_, _*_, _≤_, _<_, _-_}
-use native.Mathlib.Omega.{arith}
-use lib.ListN.{length, getD, set, length-set}
+use mathlib.Core.Path.{sym, _∙_}
 use borrow.Author.Needs.{needs}
 use Rattle.rows.proofs.tausworthe.step_backed.Statement.{statement}
 use Rattle.rows.proofs.tausworthe.step_backed.Tie as tie

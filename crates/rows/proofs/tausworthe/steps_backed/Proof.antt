@@ -1,9 +1,8 @@
 use Rattle.rows.specs.Post.{StepsBack}
 use Rattle.rows.proofs.KindOne.{steps-none, steps-more}
-use mathlib.Core.Path.{_≡_, refl, sym, ap, _∙_}
-use Prim.Native.Nat.{ℕ, zero, suc, _+_, _*_, _≤_, _<_, _-_}
+use mathlib.Core.Path.{_≡_}
+use Prim.Native.Nat.{_≤_, _-_}
 use native.Mathlib.Omega.{arith}
-use lib.ListN.{length, getD, set, length-set}
 use borrow.Author.Needs.{needs}
 use Rattle.rows.proofs.tausworthe.steps_backed.Statement.{statement}
 use Rattle.rows.proofs.tausworthe.steps_backed.Tie as tie

@@ -2,10 +2,9 @@ use lib.Pow.{pow-pos, shr-lt}
 use native.Mathlib.Nat.{mod-lt}
 use Rattle.rows.proofs.KindFour.{inside4}
 use Rattle.rows.proofs.KindFour.{backed4-is, back4-is}
-use mathlib.Core.Path.{_≡_, refl, sym, ap, _∙_}
-use Prim.Native.Nat.{ℕ, zero, suc, _+_, _*_, _≤_, _<_, _-_}
+use mathlib.Core.Path.{_≡_}
+use Prim.Native.Nat.{_+_, _-_}
 use native.Mathlib.Omega.{arith}
-use lib.ListN.{length, getD, set, length-set}
 use borrow.Author.Needs.{needs}
 use Rattle.rows.proofs.twister.backed.Statement.{statement}
 use Rattle.rows.proofs.twister.backed.Tie as tie

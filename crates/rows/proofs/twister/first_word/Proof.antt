@@ -1,8 +1,4 @@
 use Rattle.rows.proofs.KindFour.{unit-word, first-word-is}
-use mathlib.Core.Path.{_≡_, refl, sym, ap, _∙_}
-use Prim.Native.Nat.{ℕ, zero, suc, _+_, _*_, _≤_, _<_, _-_}
-use native.Mathlib.Omega.{arith}
-use lib.ListN.{length, getD, set, length-set}
 use borrow.Author.Needs.{needs}
 use Rattle.rows.proofs.twister.first_word.Statement.{statement}
 use Rattle.rows.proofs.twister.first_word.Tie as tie

@@ -3,10 +3,9 @@ use native.Mathlib.Nat.{mul-le-mul-left}
 use mathlib.Core.Logic.{⊎-elim}
 use Rattle.kinds.specs.Reads.{word-in}
 use Rattle.running.proofs.KindTwo.{Chosen, chosen-none, chosen-one, chosen-not, chosen-all}
-use mathlib.Core.Path.{_≡_, refl, sym, ap, _∙_}
-use Prim.Native.Nat.{ℕ, zero, suc, _+_, _*_, _≤_, _<_, _-_}
+use mathlib.Core.Path.{_≡_}
+use Prim.Native.Nat.{_+_, _*_, _≤_, _<_, _-_}
 use native.Mathlib.Omega.{arith}
-use lib.ListN.{length, getD, set, length-set}
 use borrow.Author.Needs.{needs}
 use Rattle.running.proofs.gfsr.next.Statement.{statement}
 use Rattle.running.proofs.gfsr.next.Tie as tie

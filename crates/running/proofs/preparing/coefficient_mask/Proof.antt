@@ -1,9 +1,8 @@
 use Rattle.document.specs.Limits.{rowWords, coefficientBytes}
 use Rattle.running.proofs.Masks.{Laying, laying-start, laying-step, laying-end}
-use mathlib.Core.Path.{_≡_, refl, sym, ap, _∙_}
-use Prim.Native.Nat.{ℕ, zero, suc, _+_, _*_, _≤_, _<_, _-_}
+use mathlib.Core.Path.{_≡_}
+use Prim.Native.Nat.{_≤_, _-_}
 use native.Mathlib.Omega.{arith}
-use lib.ListN.{length, getD, set, length-set}
 use borrow.Author.Needs.{needs}
 use Rattle.running.proofs.preparing.coefficient_mask.Statement.{statement}
 use Rattle.running.proofs.preparing.coefficient_mask.Tie as tie

@@ -1,9 +1,8 @@
 use Rattle.document.specs.Generator.{coefficient}
 use Rattle.running.proofs.PrepareLaws.{widened}
-use mathlib.Core.Path.{_≡_, refl, sym, ap, ap₂, _∙_}
-use Prim.Native.Nat.{ℕ, zero, suc, _+_, _*_, _≤_, _<_, _-_}
+use mathlib.Core.Path.{refl, ap₂}
+use Prim.Native.Nat.{_*_}
 use native.Mathlib.Omega.{arith}
-use lib.ListN.{length, getD, set, length-set}
 use borrow.Author.Needs.{needs}
 use Rattle.running.proofs.preparing.of_gfsr.Statement.{statement}
 use Rattle.running.proofs.preparing.of_gfsr.Tie as tie

@@ -1,10 +1,7 @@
 use mathlib.Core.Path.{fun-ext}
 use Rattle.kinds.specs.Transpose.{taps}
 use Rattle.document.specs.Generator.{coefficient}
-use mathlib.Core.Path.{_≡_, refl, sym, ap, ap₂, _∙_}
-use Prim.Native.Nat.{ℕ, zero, suc, _+_, _*_, _≤_, _<_, _-_}
-use native.Mathlib.Omega.{arith}
-use lib.ListN.{length, getD, set, length-set}
+use mathlib.Core.Path.{refl, ap₂, _∙_}
 use borrow.Author.Needs.{needs}
 use Rattle.running.proofs.preparing.of_tausworthe.Statement.{statement}
 use Rattle.running.proofs.preparing.of_tausworthe.Tie as tie

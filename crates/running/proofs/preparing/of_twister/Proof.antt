@@ -1,8 +1,7 @@
 use Rattle.running.proofs.PrepareLaws.{widened, word-inside}
-use mathlib.Core.Path.{_≡_, refl, sym, ap, ap₂, _∙_}
-use Prim.Native.Nat.{ℕ, zero, suc, _+_, _*_, _≤_, _<_, _-_}
+use mathlib.Core.Path.{refl, ap₂}
+use Prim.Native.Nat.{_*_, _-_}
 use native.Mathlib.Omega.{arith}
-use lib.ListN.{length, getD, set, length-set}
 use borrow.Author.Needs.{needs}
 use Rattle.running.proofs.preparing.of_twister.Statement.{statement}
 use Rattle.running.proofs.preparing.of_twister.Tie as tie

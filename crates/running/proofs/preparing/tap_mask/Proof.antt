@@ -1,9 +1,8 @@
 use Rattle.document.specs.Limits.{rowWords}
 use Rattle.running.proofs.Masks.{Tapping, tapping-start, tapping-step, tapping-end}
-use mathlib.Core.Path.{_≡_, refl, sym, ap, _∙_}
-use Prim.Native.Nat.{ℕ, zero, suc, _+_, _*_, _≤_, _<_, _-_}
+use mathlib.Core.Path.{_≡_}
+use Prim.Native.Nat.{_≤_, _-_}
 use native.Mathlib.Omega.{arith}
-use lib.ListN.{length, getD, set, length-set}
 use borrow.Author.Needs.{needs}
 use Rattle.running.proofs.preparing.tap_mask.Statement.{statement}
 use Rattle.running.proofs.preparing.tap_mask.Tie as tie

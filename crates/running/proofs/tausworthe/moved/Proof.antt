@@ -1,10 +1,9 @@
 use Rattle.kinds.specs.Generator.{tausworthe}
 use Rattle.running.specs.Prepared.{Stepped}
 use Rattle.running.proofs.KindOne.{stepped-none, stepped-more}
-use mathlib.Core.Path.{_≡_, refl, sym, ap, _∙_}
-use Prim.Native.Nat.{ℕ, zero, suc, _+_, _*_, _≤_, _<_, _-_}
+use mathlib.Core.Path.{_≡_}
+use Prim.Native.Nat.{_≤_, _-_}
 use native.Mathlib.Omega.{arith}
-use lib.ListN.{length, getD, set, length-set}
 use borrow.Author.Needs.{needs}
 use Rattle.running.proofs.tausworthe.moved.Statement.{statement}
 use Rattle.running.proofs.tausworthe.moved.Tie as tie

@@ -1,9 +1,8 @@
 use Rattle.kinds.specs.Generator.{tausworthe}
 use Rattle.running.proofs.KindOne.{Put, put-start, put-more, put-small}
-use mathlib.Core.Path.{_≡_, refl, sym, ap, _∙_}
-use Prim.Native.Nat.{ℕ, zero, suc, _+_, _*_, _≤_, _<_, _-_}
+use mathlib.Core.Path.{_≡_}
+use Prim.Native.Nat.{_≤_, _-_}
 use native.Mathlib.Omega.{arith}
-use lib.ListN.{length, getD, set, length-set}
 use borrow.Author.Needs.{needs}
 use Rattle.running.proofs.tausworthe.output.Statement.{statement}
 use Rattle.running.proofs.tausworthe.output.Tie as tie

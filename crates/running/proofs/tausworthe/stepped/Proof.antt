@@ -1,8 +1,5 @@
 use Rattle.running.proofs.KindOne.{stepped-one, stepped-zero}
-use mathlib.Core.Path.{_≡_, refl, sym, ap, _∙_}
-use Prim.Native.Nat.{ℕ, zero, suc, _+_, _*_, _≤_, _<_, _-_}
-use native.Mathlib.Omega.{arith}
-use lib.ListN.{length, getD, set, length-set}
+use mathlib.Core.Path.{sym, _∙_}
 use borrow.Author.Needs.{needs}
 use Rattle.running.proofs.tausworthe.stepped.Statement.{statement}
 use Rattle.running.proofs.tausworthe.stepped.Tie as tie

@@ -1,9 +1,7 @@
 use Rattle.kinds.specs.Reads.{word-in}
 use Rattle.running.proofs.KindFour.{next4-is}
-use mathlib.Core.Path.{_≡_, refl, sym, ap, _∙_}
-use Prim.Native.Nat.{ℕ, zero, suc, _+_, _*_, _≤_, _<_, _-_}
+use Prim.Native.Nat.{_-_}
 use native.Mathlib.Omega.{arith}
-use lib.ListN.{length, getD, set, length-set}
 use borrow.Author.Needs.{needs}
 use Rattle.running.proofs.twister.next.Statement.{statement}
 use Rattle.running.proofs.twister.next.Tie as tie

@@ -1,9 +1,6 @@
 use Rattle.running.proofs.Numbers.{within}
 use Rattle.running.proofs.KindFour.{output4-is}
-use mathlib.Core.Path.{_≡_, refl, sym, ap, _∙_}
-use Prim.Native.Nat.{ℕ, zero, suc, _+_, _*_, _≤_, _<_, _-_}
 use native.Mathlib.Omega.{arith}
-use lib.ListN.{length, getD, set, length-set}
 use borrow.Author.Needs.{needs}
 use Rattle.running.proofs.twister.output.Statement.{statement}
 use Rattle.running.proofs.twister.output.Tie as tie

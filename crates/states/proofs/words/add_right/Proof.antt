@@ -1,8 +1,5 @@
 use Rattle.states.proofs.WordLaws.{add-right-is}
-use mathlib.Core.Path.{_≡_, refl, sym, ap, _∙_}
-use Prim.Native.Nat.{ℕ, zero, suc, _+_, _*_, _≤_, _<_, _-_}
 use native.Mathlib.Omega.{arith}
-use lib.ListN.{length, getD, set, length-set}
 use borrow.Author.Needs.{needs}
 use Rattle.states.proofs.words.add_right.Statement.{statement}
 use Rattle.states.proofs.words.add_right.Tie as tie

@@ -3,10 +3,9 @@ use lib.Pow.{shl-exact, pow-pos}
 use lib.Bits.{and-mask}
 use native.Mathlib.Nat.{one-mul}
 use Prim.Native.Nat.{_%_, _^_}
-use mathlib.Core.Path.{_≡_, refl, sym, ap, _∙_}
-use Prim.Native.Nat.{ℕ, zero, suc, _+_, _*_, _≤_, _<_, _-_}
+use mathlib.Core.Path.{_≡_, _∙_}
+use Prim.Native.Nat.{_*_}
 use native.Mathlib.Omega.{arith}
-use lib.ListN.{length, getD, set, length-set}
 use borrow.Author.Needs.{needs}
 use Rattle.states.proofs.words.low.Statement.{statement}
 use Rattle.states.proofs.words.low.Tie as tie

@@ -1,10 +1,8 @@
 use Rattle.digits.specs.Def.{digit}
 use lib.Dec.{lit<}
 use Rattle.states.proofs.WordLaws.{mirrored-is}
-use mathlib.Core.Path.{_≡_, refl, sym, ap, _∙_}
-use Prim.Native.Nat.{ℕ, zero, suc, _+_, _*_, _≤_, _<_, _-_}
+use mathlib.Core.Path.{refl}
 use native.Mathlib.Omega.{arith}
-use lib.ListN.{length, getD, set, length-set}
 use borrow.Author.Needs.{needs}
 use Rattle.states.proofs.words.mirrored.Statement.{statement}
 use Rattle.states.proofs.words.mirrored.Tie as tie
