@@ -1,10 +1,11 @@
 -- "Ranges": what holds of the fields of an accepted generator, and the proof that no refusal says just that.
-use mathlib.Core.Path.{_≡_, refl, sym, ap, subst, _∙_}
+use mathlib.Core.Path.{_≡_, refl, sym, ap, ap₂, subst, _∙_}
 use mathlib.Core.Bool.{Bool, true, false, not, _&&_, _||_, cond, true≢false, false≢true}
 use mathlib.Core.List.{List, [], _∷_}
 use mathlib.Core.Logic.{by-cases}
 use Prim.Native.Nat.{ℕ, zero, suc, _+_, _-_, _*_, _/_, _%_, _^_, _≤_, _<_}
-use native.Mathlib.Decide.{ℕ-discrete}
+use native.Mathlib.Decide.{decLt, ℕ-discrete}
+use native.Mathlib.Numerals.{add-one}
 use native.Mathlib.Omega.{arith}
 use lib.Dec.{eqb, ltb}
 use lib.ListN.{getD}
@@ -108,6 +109,20 @@ pub any-none : (n : ℕ) (f : ℕ → Bool) → any n f ≡ false → (i : ℕ) 
 unfolding any
 any-none zero f e = λ i h. absurd (omega arith)
 any-none (suc n) f e = let (a, b) = or-none (any n f) (f n) e in below-suc n (λ i. f i ≡ false) (any-none n f a) b
+
+-- one more test
+pub any-next : (n : ℕ) (f : ℕ → Bool) → any n f ≡ false → f n ≡ false → any (n + 1) f ≡ false
+unfolding any
+any-next n f e h = rw add-one (ap₂ _||_ e h)
+
+pub any-found : (n : ℕ) (f : ℕ → Bool) (i : ℕ) → i < n → f i ≡ true → any n f ≡ true
+unfolding any
+any-found zero f i h e = absurd (omega arith)
+any-found (suc n) f i h e = by-cases (decLt i n) (λ l. ap (λ x. x || f n) (any-found n f i l e)) (λ l. let q : i ≡ n = omega arith in either (any n f) (f n) (ap f (sym q) ∙ e))
+  where
+    either : (a b : Bool) → b ≡ true → (a || b) ≡ true
+    either true b e = refl
+    either false b e = e
 
 below : (x n : ℕ) → not (ltb x n) ≡ false → x < n
 below x n e = ltb-true x n (not-false (ltb x n) e)

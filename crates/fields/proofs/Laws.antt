@@ -12,7 +12,6 @@ use lib.Pow.{pow-mono}
 use borrow.Author.Tests.{lt-ltb, le-ltb, lt-leb, le-leb, ne-eqb}
 use Rattle.digits.specs.Def.{nonzero}
 use Rattle.document.specs.Generator.{byKind}
-use Rattle.document.specs.Refusals.{any}
 use Rattle.document.specs.Ranges.{is-one, is-two, is-three, is-other}
 
 pub or-left : (a b : Bool) → a ≡ true → true ≡ (a || b)
@@ -79,17 +78,3 @@ set-passed n b x e = or-right (nonzero n) b x (ap nonzero e)
 -- a number of 32 bits is below every higher power
 pub small-below : (x w : ℕ) → x < 2 ^ 32 → 32 ≤ w → ltb x (2 ^ w) ≡ true
 small-below x w h l = lt-ltb x (2 ^ w) (omega (arith, pow-mono {i = 32} {j = w} l))
-
--- one more test
-pub any-next : (n : ℕ) (f : ℕ → Bool) → any n f ≡ false → f n ≡ false → any (n + 1) f ≡ false
-unfolding any
-any-next n f e h = rw add-one (ap₂ _||_ e h)
-
-pub any-found : (n : ℕ) (f : ℕ → Bool) (i : ℕ) → i < n → f i ≡ true → any n f ≡ true
-unfolding any
-any-found zero f i h e = absurd (omega arith)
-any-found (suc n) f i h e = by-cases (decLt i n) (λ l. ap (λ x. x || f n) (any-found n f i l e)) (λ l. let q : i ≡ n = omega arith in either (any n f) (f n) (ap f (sym q) ∙ e))
-  where
-    either : (a b : Bool) → b ≡ true → (a || b) ≡ true
-    either true b e = refl
-    either false b e = e

@@ -3,7 +3,7 @@ use Rattle.digits.specs.Def.{digit}
 use Rattle.digits.specs.Parity.{digit-test}
 use Rattle.document.specs.Refusals.{any, coefficientPast}
 use Rattle.document.specs.Limits.{coefficientBytes}
-use Rattle.fields.proofs.Laws.{any-next, any-found}
+use Rattle.document.specs.Ranges.{any-next, any-found}
 use mathlib.Core.Bool.{not, false, _&&_}
 use lib.Dec.{ltb}
 use mathlib.Core.Path.{_≡_, refl, sym, ap, _∙_}

@@ -1,0 +1,3 @@
+-- What the outputs call promises, and that two replies that keep the promise agree.
+pub mod Promises
+pub mod Theorems
