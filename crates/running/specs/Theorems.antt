@@ -3,6 +3,7 @@ use mathlib.Core.Path.{_≡_, refl, ap, ap₂, _∙_}
 use mathlib.Core.Bool.{cond}
 use mathlib.Core.List.{List}
 use Prim.Native.Nat.{ℕ, zero, suc, _+_, _*_}
+use native.Mathlib.Numerals.{add-one}
 use native.Mathlib.Omega.{arith}
 use Rattle.digits.specs.Def.{Word, Same, bitsOf, numberOf}
 use Rattle.kinds.specs.Generator.{Machine, times, outputBit}
@@ -61,9 +62,9 @@ after-none M s = record { bits = λ _ _. refl }
 
 module _ (M : Machine) (l : LocalMachine M) (n : ℕ) (s t : List ℕ) (a : After M n s t) where
   -- one more `moved`
-  pub after-more : (u : List ℕ) → Same (M .size) (bitsOf u) (M .move (bitsOf t)) → After M (suc n) s u
+  pub after-more : (u : List ℕ) → Same (M .size) (bitsOf u) (M .move (bitsOf t)) → After M (n + 1) s u
   unfolding times
-  after-more u h = record { bits = λ i o. h i o ∙ l .move _ _ (a .bits) i o }
+  after-more u h = rw add-one (record { bits = λ i o. h i o ∙ l .move _ _ (a .bits) i o })
 
   -- `output` then gives output n
   pub after-output : (r : ℕ) → r ≡ numberOf (M .width) (M .out (bitsOf t)) → r ≡ output M n (bitsOf s)
