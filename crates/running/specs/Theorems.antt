@@ -2,7 +2,7 @@
 use mathlib.Core.Path.{_≡_, refl, ap, ap₂, _∙_}
 use mathlib.Core.Bool.{cond}
 use mathlib.Core.List.{List}
-use Prim.Native.Nat.{ℕ, zero, suc, _+_, _*_}
+use Prim.Native.Nat.{ℕ, zero, suc, _+_, _*_, _≤_}
 use native.Mathlib.Numerals.{add-one}
 use native.Mathlib.Omega.{arith}
 use Rattle.digits.specs.Def.{Word, Same, bitsOf, numberOf}
@@ -10,6 +10,7 @@ use Rattle.kinds.specs.Generator.{Machine, times, outputBit}
 use Rattle.kinds.specs.Alike.{Alike, alike-output}
 use Rattle.kinds.specs.Reads.{LocalMachine}
 use Rattle.document.specs.declared.Fields.{Fields}
+use Rattle.document.specs.Limits.{mostBits}
 use Rattle.document.specs.Generator.{machine, size}
 use Rattle.document.specs.Ranges.{Accepted}
 use Rattle.document.specs.Outputs.{output}
@@ -49,6 +50,10 @@ prepared-output g p x y n s =
 -- bits of the state from k on play no part
 pub ready-local : (p : Prepared) → Ready p → LocalMachine (machineOf p)
 ready-local = R.ready-local
+
+-- a state of eight words holds its k bits
+pub ready-most : (p : Prepared) → Ready p → p .k ≤ mostBits
+ready-most = R.ready-most
 
 -- ---- a run of a machine: t is the state n moves after s
 
