@@ -13,6 +13,7 @@ use Rattle.kinds.specs.Transpose.{taps}
 use Rattle.kinds.specs.Adjoint.{taps-below, taps-at, taps-past}
 use Rattle.kinds.specs.Alike.{Alike, tausworthe-alike, gfsr-alike, mersenne-alike, twisted-alike}
 use Rattle.document.specs.declared.Fields.{Fields}
+use Rattle.document.specs.Limits.{mostBits}
 use Rattle.document.specs.Generator.{machine, coefficient}
 use Rattle.document.specs.Ranges.{Accepted, WordRanges, Ranges1, TwistRanges, is-one, is-two, is-three, is-four, cases}
 use Rattle.running.specs.declared.Prepared.{Prepared}
@@ -169,3 +170,10 @@ ready-local p x =
     (λ e. let y = x .two e in local-carried p (machine2 p) (kind-two p n e) (sym (y .size)) refl (gfsr-local _ _ _ _ (y .words .some) (y .words .bits)))
     (λ o. let y = x .other n o in
     local-carried p (machine4 p) (kind-other p n o) (sym (y .size)) refl (mersenne-local _ _ _ _ _ _ _ _ _ _ _ _ (y .back) (y .few) (y .part) (y .words .bits))))
+
+pub ready-most : (p : Prepared) → Ready p → p .k ≤ mostBits
+ready-most p x =
+    by-cases (ℕ-discrete (p .kind) 1) (λ e. x .one e .mask .most)
+    (λ n. by-cases (ℕ-discrete (p .kind) 2)
+    (λ e. let y = x .two e in omega (arith, y .size, y .words .fit))
+    (λ o. let y = x .other n o in omega (arith, y .size, y .words .fit)))

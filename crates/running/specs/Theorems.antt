@@ -2,13 +2,15 @@
 use mathlib.Core.Path.{_≡_, refl, ap, ap₂, _∙_}
 use mathlib.Core.Bool.{cond}
 use mathlib.Core.List.{List}
-use Prim.Native.Nat.{ℕ, zero, suc, _+_, _*_}
+use Prim.Native.Nat.{ℕ, zero, suc, _+_, _*_, _≤_}
+use native.Mathlib.Numerals.{add-one}
 use native.Mathlib.Omega.{arith}
 use Rattle.digits.specs.Def.{Word, Same, bitsOf, numberOf}
 use Rattle.kinds.specs.Generator.{Machine, times, outputBit}
 use Rattle.kinds.specs.Alike.{Alike, alike-output}
 use Rattle.kinds.specs.Reads.{LocalMachine}
 use Rattle.document.specs.declared.Fields.{Fields}
+use Rattle.document.specs.Limits.{mostBits}
 use Rattle.document.specs.Generator.{machine, size}
 use Rattle.document.specs.Ranges.{Accepted}
 use Rattle.document.specs.Outputs.{output}
@@ -49,6 +51,10 @@ prepared-output g p x y n s =
 pub ready-local : (p : Prepared) → Ready p → LocalMachine (machineOf p)
 ready-local = R.ready-local
 
+-- a state of eight words holds its k bits
+pub ready-most : (p : Prepared) → Ready p → p .k ≤ mostBits
+ready-most = R.ready-most
+
 -- ---- a run of a machine: t is the state n moves after s
 
 pub record After (M : Machine) (n : ℕ) (s t : List ℕ) : Type 0 where
@@ -61,9 +67,9 @@ after-none M s = record { bits = λ _ _. refl }
 
 module _ (M : Machine) (l : LocalMachine M) (n : ℕ) (s t : List ℕ) (a : After M n s t) where
   -- one more `moved`
-  pub after-more : (u : List ℕ) → Same (M .size) (bitsOf u) (M .move (bitsOf t)) → After M (suc n) s u
+  pub after-more : (u : List ℕ) → Same (M .size) (bitsOf u) (M .move (bitsOf t)) → After M (n + 1) s u
   unfolding times
-  after-more u h = record { bits = λ i o. h i o ∙ l .move _ _ (a .bits) i o }
+  after-more u h = rw add-one (record { bits = λ i o. h i o ∙ l .move _ _ (a .bits) i o })
 
   -- `output` then gives output n
   pub after-output : (r : ℕ) → r ≡ numberOf (M .width) (M .out (bitsOf t)) → r ≡ output M n (bitsOf s)
