@@ -4,7 +4,6 @@ use mathlib.Core.List.{List}
 use mathlib.Core.Logic.{by-cases}
 use Prim.Native.Nat.{ℕ, suc, _+_, _*_, _≤_, _<_}
 use native.Mathlib.Decide.{decLt}
-use native.Mathlib.Numerals.{add-one}
 use native.Mathlib.Omega.{arith}
 use lib.ListN.{length, getD, set, length-set}
 use lib.Seq.{getD-set-same, getD-set-other}
@@ -52,7 +51,7 @@ pub running-turn : (M : Machine) (l : LocalMachine M) (start was : List ℕ) (n 
 running-turn M l start was n s now r u x h e f =
     record {
       front = front-more n r (λ i. output M i (bitsOf start)) was now (x .front) h (after-output M l n start s (x .state) r e);
-      state = rw add-one (after-more M l n start s (x .state) u f);
+      state = after-more M l n start s (x .state) u f;
     }
 
 -- ---- the call
