@@ -1,0 +1,47 @@
+// The host's boundary: every call of document 01 for C, Rust and Python. Lent slices pass as a pointer and a length, replies by value.
+// Each function promises what the call that it hands on to promises, and asks nothing.
+ghost use mathlib.Core.Path.{_≡_};
+ghost use Rattle.description.specs.Promises.{ReadAs, WrittenAs};
+ghost use Rattle.outputs.specs.Promises.{RanAs};
+ghost use Rattle.value.specs.Promises.{ValuedAs};
+
+use description::Reading;
+use document::Dimension;
+use document::Fields;
+use document::ROW_WORDS;
+use value::Valued;
+
+// A start state, or a set: bit i is worth 2^(i mod 64) in word i div 64.
+#[repr(C)]
+pub struct Words {
+    pub words: [u64; ROW_WORDS],
+}
+
+#[no_mangle]
+pub extern "C" fn dayunglipo_read(bytes: &[u8]) -> Reading
+    ensures { λ r. ⌜ ReadAs (now (bytes .entry)) r ⌝ }
+{
+    description::read(bytes)
+}
+
+#[no_mangle]
+pub extern "C" fn dayunglipo_write(g: Fields, out: &mut [u8]) -> u32
+    ensures { λ r. ⌜ WrittenAs g (now (out .entry)) r (now (out .exit)) ⌝ }
+{
+    description::write(g, out)
+}
+
+#[no_mangle]
+pub extern "C" fn dayunglipo_outputs(g: Fields, t: usize, state: Words, out: &mut [u32]) -> u32
+    ensures { λ r. ⌜ RanAs g t (state .words) (now (out .entry)) r (now (out .exit)) ⌝ }
+{
+    let words = state.words;
+    outputs::outputs(g, Dimension(t), words, out)
+}
+
+#[no_mangle]
+pub extern "C" fn dayunglipo_value(y: u64, l: u32) -> Valued
+    ensures { λ r. ⌜ ValuedAs y l r ⌝ }
+{
+    value::value(y, l)
+}
