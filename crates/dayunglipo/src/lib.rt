@@ -4,7 +4,6 @@ ghost use mathlib.Core.Path.{_≡_};
 ghost use Rattle.description.specs.Promises.{ReadAs, WrittenAs};
 ghost use Rattle.outputs.specs.Promises.{RanAs};
 ghost use Rattle.value.specs.Promises.{ValuedAs};
-
 use description::Reading;
 use document::Dimension;
 use document::Fields;

@@ -15,6 +15,7 @@ pub mod Lowest
 pub mod Agreement
 pub mod Decide
 pub mod Ranges
+pub mod RoundTrip
 pub mod Cases
 pub mod Samples
 pub mod Theorems

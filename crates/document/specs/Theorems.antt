@@ -13,7 +13,11 @@ use Rattle.kinds.specs.Linear.{LinearMachine}
 use Rattle.kinds.specs.Reads.{LocalMachine}
 use Rattle.document.specs.declared.Fields.{Fields}
 use Rattle.document.specs.Generator.{machine}
-use Rattle.document.specs.Refusals.{Case, lowest, fieldCases, readCases, writeCases, outputsCases, questionCases, basisCases, reportCases, valueCases, fieldRefusal}
+use Rattle.document.specs.Refusals.{Case, lowest, fieldCases, readCases, writeCases, outputsCases, questionCases, basisCases, reportCases, valueCases, fieldRefusal, readRefusal}
+use lib.ListN.{getD}
+use Rattle.document.specs.Description.{description, fieldsOf}
+use Rattle.document.specs.RoundTrip.{Sized}
+use Rattle.document.specs.RoundTrip as W
 use Rattle.document.specs.Memory.{Front}
 use Rattle.document.specs.Cells.{cellBit, isYes, Answer}
 use Rattle.document.specs.Basis.{BasisOf}
@@ -54,6 +58,20 @@ report-rises = L.report-rises
 
 pub value-rises : (y L : ℕ) → Rising 0 (valueCases y L)
 value-rises = L.value-rises
+
+-- ---- "Read then write gives the same bytes; write then read the same generator"
+
+pub written-read : (g : Fields) → Sized g → fieldRefusal g ≡ 0 → fieldsOf (description g) ≡ g
+written-read = W.written-read
+
+pub written-accepted : (g : Fields) → Sized g → fieldRefusal g ≡ 0 → readRefusal (description g) ≡ 0
+written-accepted = W.written-accepted
+
+pub read-written : (bs : List ℕ) → ((i : ℕ) → getD bs i 0 < 256) → readRefusal bs ≡ 0 → description (fieldsOf bs) ≡ bs
+read-written = W.read-written
+
+pub read-accepted : (bs : List ℕ) → readRefusal bs ≡ 0 → fieldRefusal (fieldsOf bs) ≡ 0
+read-accepted = W.read-accepted
 
 -- ---- the generator that the fields stand for
 
