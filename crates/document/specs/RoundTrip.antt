@@ -377,7 +377,7 @@ read-accepted bs e =
   where
     kind-of : (bs : List ℕ) → (1 ≤ getD bs 0 0) × (getD bs 0 0 ≤ 4) → fieldsOf bs .kind ≡ getD bs 0 0
     kind-of bs (k₁, k₂) =
-        by-cases (ℕ-discrete (getD bs 0 0) 1) (λ q. ap (λ g. g .kind) (is-one (getD bs 0 0) _ _ _ _ q))
-        (λ n₁. by-cases (ℕ-discrete (getD bs 0 0) 2) (λ q. ap (λ g. g .kind) (is-two (getD bs 0 0) _ _ _ _ q))
-        (λ n₂. by-cases (ℕ-discrete (getD bs 0 0) 3) (λ q. ap (λ g. g .kind) (is-three (getD bs 0 0) _ _ _ _ q))
-        (λ n₃. let q : getD bs 0 0 ≡ 4 = omega arith in ap (λ g. g .kind) (is-four (getD bs 0 0) _ _ _ _ q))))
+        by-cases (ℕ-discrete (getD bs 0 0) 1) (λ q. ap (λ (g : Fields). g .kind) (is-one (getD bs 0 0) _ _ _ _ q))
+        (λ n₁. by-cases (ℕ-discrete (getD bs 0 0) 2) (λ q. ap (λ (g : Fields). g .kind) (is-two (getD bs 0 0) _ _ _ _ q))
+        (λ n₂. by-cases (ℕ-discrete (getD bs 0 0) 3) (λ q. ap (λ (g : Fields). g .kind) (is-three (getD bs 0 0) _ _ _ _ q))
+        (λ n₃. let q : getD bs 0 0 ≡ 4 = omega arith in ap (λ (g : Fields). g .kind) (is-four (getD bs 0 0) _ _ _ _ q))))
