@@ -15,24 +15,12 @@ use Rattle.theory.specs.Sums.{pair-unit}
 use Rattle.digits.specs.Def.{Word, digit, bitsOf, bitsFrom}
 use Rattle.digits.specs.Laws.{digit-zero}
 use Rattle.kinds.specs.Generator.{Machine}
-use Rattle.document.specs.Limits.{mostBits, rowWords}
+use Rattle.document.specs.Limits.{rowWords}
 use Rattle.document.specs.Basis.{row}
-use Rattle.running.specs.declared.Prepared.{Prepared}
-use Rattle.running.specs.Prepared.{Ready, machineOf}
 use Rattle.rows.specs.Theorems.{RowOf, row-same}
 use Rattle.elimination.specs.Words.{Kept, Written}
 use Rattle.elimination.proofs.RowBits.{bits-same}
 use Rattle.filling.specs.Rows.{stride, stateRow, Stands, StandsAll, Filled}
-
--- ---- a state has no more bits than a row
-
-pub ready-size : (p : Prepared) → Ready p → p .k ≤ mostBits
-ready-size p x =
-    by-cases (ℕ-discrete (p .kind) 1)
-    (λ e. x .one e .mask .most)
-    (λ n. by-cases (ℕ-discrete (p .kind) 2)
-    (λ e. let y = x .two e in omega (arith, y .size, y .words .fit))
-    (λ o. let y = x .other n o in omega (arith, y .size, y .words .fit)))
 
 -- ---- words got
 

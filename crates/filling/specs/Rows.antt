@@ -1,6 +1,6 @@
 -- Rows of output bits in a buffer.
 use mathlib.Core.Path.{_≡_}
-use mathlib.Core.Bool.{false, cond}
+use mathlib.Core.Bool.{Bool, false, cond}
 use mathlib.Core.List.{List}
 use Prim.Native.Nat.{ℕ, _+_, _*_, _<_, _≤_}
 use lib.Dec.{ltb}
@@ -10,6 +10,8 @@ use Rattle.kinds.specs.Generator.{Machine}
 use Rattle.document.specs.Limits.{rowWords}
 use Rattle.document.specs.Basis.{row}
 use Rattle.rows.specs.Theorems.{RowOf}
+use Rattle.span.specs.Def.{DependentRows, IndependentRows}
+use Rattle.elimination.specs.Words.{Kept}
 
 -- the words of a row, with the room for a set beside it
 abbrev pub stride : ℕ
@@ -33,4 +35,19 @@ pub record Filled (M : Machine) (l n : ℕ) (ws out : List ℕ) : Type 0 where
   pub long : length out ≡ length ws
   pub rows : StandsAll M l n 0 out
   pub between : (i k : ℕ) → i < n → rowWords ≤ k → k < stride → getD out (i * stride + k) 0 ≡ getD ws (i * stride + k) 0
+  pub behind : (j : ℕ) → n * stride ≤ j → getD out j 0 ≡ getD ws j 0
+
+-- the row of output bit i stands in both halves of its place; all other words are as they were
+pub record Laid (M : Machine) (l i : ℕ) (ws out : List ℕ) : Type 0 where
+  pub kept : Kept ws (i * stride) stride out
+  pub first : Stands M l i out (i * stride)
+  pub second : Stands M l i out (i * stride + rowWords)
+
+-- Of the first n rows, no dependent set ends before d, and one ends at d unless d is n. The words behind the n rows are as they were.
+pub record FirstDependent (M : Machine) (l n : ℕ) (ws : List ℕ) (d : ℕ) (out : List ℕ) : Type 0 where
+  pub most : d ≤ n
+  pub rows : (i : ℕ) → i < n → i ≤ d → RowOf M l i (stateRow M l i)
+  pub before : IndependentRows (64 * rowWords) (stateRow M l) d
+  pub at : d < n → (S : ℕ → Bool) × DependentRows (64 * rowWords) (stateRow M l) d S
+  pub long : length out ≡ length ws
   pub behind : (j : ℕ) → n * stride ≤ j → getD out j 0 ≡ getD ws j 0

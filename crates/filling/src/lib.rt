@@ -7,7 +7,7 @@ ghost use Rattle.document.specs.Limits.{rowWords};
 ghost use Rattle.elimination.specs.Words.{Written};
 ghost use Rattle.running.specs.Prepared.{Ready, machineOf};
 ghost use Rattle.rows.specs.Theorems.{RowOf};
-ghost use Rattle.filling.specs.Rows.{stride, StandsAll, Filled};
+ghost use Rattle.filling.specs.Rows.{stride, StandsAll, Filled, Laid, FirstDependent};
 use document::ROW_WORDS;
 use running::Prepared;
 
@@ -59,4 +59,41 @@ pub fn fill(buf: &mut [u64], p: Prepared, l: usize, n: usize)
         let row = next_row(buf, p, l, i, 0);
         put_row(buf, i * STRIDE, row);
     }
+}
+
+// Makes row i, and lays it twice into its place: in the second half as it is, for the rows after
+// it, and in the first half to be taken.
+fn lay_row(buf: &mut [u64], p: Prepared, l: usize, i: usize)
+    requires { ⌜ Ready p × (1 ≤ l) × (l ≤ p .bits) × (i * stride + stride ≤ length (now buf)) ⌝ }
+    requires { ⌜ StandsAll (machineOf p) l i rowWords (now buf) ⌝ }
+    ensures { λ _. ⌜ Laid (machineOf p) l i (now (buf .entry)) (now (buf .exit)) ⌝ }
+{
+    let row = next_row(buf, p, l, i, ROW_WORDS);
+    put_row(buf, i * STRIDE, row);
+    put_row(buf, i * STRIDE + ROW_WORDS, row);
+}
+
+// The first dependent row, with slots lent.
+fn grow(buf: &mut [u64], p: Prepared, l: usize, n: usize, slots: &mut [usize]) -> usize
+    requires { ⌜ Ready p × (1 ≤ l) × (l ≤ p .bits) × (n * stride ≤ length (now buf)) × (64 * rowWords ≤ length (now slots)) ⌝ }
+    ensures { λ d. ⌜ FirstDependent (machineOf p) l n (now (buf .entry)) d (now (buf .exit)) ⌝ }
+{
+    elimination::clear_slots(slots, 64 * ROW_WORDS);
+    for i in 0..n {
+        lay_row(buf, p, l, i);
+        if !elimination::take_row(buf, i, STRIDE, ROW_WORDS, ROW_WORDS, slots) {
+            return i;
+        }
+    }
+    n
+}
+
+// The number of the first row, of the first n of the resolution l, that is a sum of those before
+// it; n if there is none. Each row is made just before it is taken, so none is made in vain.
+pub fn first_dependent(buf: &mut [u64], p: Prepared, l: usize, n: usize) -> usize
+    requires { ⌜ Ready p × (1 ≤ l) × (l ≤ p .bits) × (n * stride ≤ length (now buf)) ⌝ }
+    ensures { λ d. ⌜ FirstDependent (machineOf p) l n (now (buf .entry)) d (now (buf .exit)) ⌝ }
+{
+    let mut slots = [0usize; 64 * ROW_WORDS];
+    grow(buf, p, l, n, &mut slots)
 }

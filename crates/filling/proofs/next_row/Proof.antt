@@ -2,7 +2,8 @@ use Rattle.digits.specs.Def.{bitsOf}
 use Rattle.document.specs.Limits.{rowWords}
 use Rattle.running.specs.Prepared.{machineOf}
 use Rattle.rows.specs.Theorems.{RowOf, row-first, row-next}
-use Rattle.filling.proofs.Laws.{ready-size, stands-got}
+use Rattle.filling.specs.Theorems.{ready-size}
+use Rattle.filling.proofs.Laws.{stands-got}
 use mathlib.Core.Path.{_≡_, refl, sym, ap, _∙_}
 use Prim.Native.Nat.{ℕ, zero, suc, _+_, _*_, _≤_, _<_, _-_}
 use native.Mathlib.Omega.{arith}
