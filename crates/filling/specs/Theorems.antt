@@ -12,7 +12,7 @@ use Rattle.theory.specs.Def.{bit, Linear, Equidistributed}
 use Rattle.theory.specs.Sums.{pair-same}
 use Rattle.digits.specs.Def.{Word}
 use Rattle.document.specs.declared.Fields.{Fields}
-use Rattle.document.specs.Limits.{mostBits, rowWords}
+use Rattle.document.specs.Limits.{mostBits, mostOutput, rowWords}
 use Rattle.document.specs.Generator.{machine, size}
 use Rattle.document.specs.Ranges.{Accepted, cases}
 use Rattle.document.specs.Cells.{cellBit, isYes}
@@ -35,7 +35,16 @@ ready-size p x =
     (λ e. let y = x .two e in omega (arith, y .size, y .words .fit))
     (λ o. let y = x .other n o in omega (arith, y .size, y .words .fit)))
 
-not-yes : (b : Bool) → ¬ (b ≡ true) → b ≡ false
+-- and an output no more bits than a word
+pub ready-bits : (p : Prepared) → Ready p → p .bits ≤ mostOutput
+ready-bits p x =
+    by-cases (ℕ-discrete (p .kind) 1)
+    (λ e. x .one e .bits)
+    (λ n. by-cases (ℕ-discrete (p .kind) 2)
+    (λ e. let y = x .two e .words in omega (arith, y .bits, y .narrow))
+    (λ o. let y = x .other n o .words in omega (arith, y .bits, y .narrow)))
+
+pub not-yes : (b : Bool) → ¬ (b ≡ true) → b ≡ false
 not-yes true n = absurd (n refl)
 not-yes false n = refl
 

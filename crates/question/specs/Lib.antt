@@ -1,0 +1,3 @@
+-- What the contracts of `question` cite.
+pub mod Searches
+pub mod Promises
