@@ -4,11 +4,11 @@ use mathlib.Core.Bool.{Bool, true, false, _&&_, true≢false}
 use mathlib.Core.List.{List}
 use mathlib.Core.Logic.{by-cases}
 use native.Mathlib.Decide.{decLt}
-use Prim.Native.Nat.{ℕ, zero, suc, _+_, _*_, _/_, _%_, _≤_, _<_}
+use Prim.Native.Nat.{ℕ, zero, suc, _+_, _*_, _/_, _%_, _^_, _≤_, _<_}
 use native.Mathlib.Nat.{zero-add, mul-le-mul}
 use native.Mathlib.Omega.{arith}
 use borrow.Author.Tests.{ltb-false}
-use lib.Dec.{ltb}
+use lib.Dec.{ltb, lit<}
 use lib.ListN.{length, getD, replicate, List·getD-eq-default}
 use Rattle.theory.specs.Def.{Linear}
 use Rattle.theory.specs.Laws.{xorsum-cong}
@@ -70,6 +70,9 @@ pub zeros : (n i : ℕ) → _≡_ {A = ℕ} (getD (replicate n 0) i 0) 0
 zeros zero i = refl
 zeros (suc n) zero = refl
 zeros (suc n) (suc i) = zeros n i
+
+pub zeros-small : (n i : ℕ) → _<_ (getD (replicate n 0) i 0) (2 ^ 64)
+zeros-small n i = rw (zeros n i) (lit< tt)
 
 -- ---- `search`
 
@@ -156,6 +159,7 @@ module _ (M : Machine) (l n : ℕ) (few : n ≤ mostBits + 1) (was mid : List �
       (λ h. let (a, b, c) = y .no h in record {
         refusal = y .refusal;
         long = y .long;
+        small = y .small;
         rows = x .rows;
         no = λ _. rw b (first-same M l n d (setOf mid stride rowWords d) (bitsOf (r .set)) (omega arith) (same c) (x .found h));
         yes = λ e. absurd (true≢false (sym e ∙ a));
@@ -164,6 +168,7 @@ module _ (M : Machine) (l n : ℕ) (few : n ≤ mostBits + 1) (was mid : List �
       (λ h. let (a, b, c) = y .yes (omega arith) in record {
         refusal = y .refusal;
         long = y .long;
+        small = y .small;
         rows = x .rows;
         no = λ e. absurd (true≢false (sym a ∙ e));
         yes = λ _. (x .none (omega (arith, x .most)), b, zero-bits (r .set) c);

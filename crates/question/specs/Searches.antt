@@ -2,7 +2,7 @@
 use mathlib.Core.Path.{_≡_}
 use mathlib.Core.Bool.{Bool, true, false}
 use mathlib.Core.List.{List}
-use Prim.Native.Nat.{ℕ, _+_, _*_, _<_, _≤_}
+use Prim.Native.Nat.{ℕ, _+_, _*_, _^_, _<_, _≤_}
 use lib.ListN.{length, getD}
 use Rattle.digits.specs.Def.{bitsOf}
 use Rattle.kinds.specs.Generator.{Machine}
@@ -48,6 +48,7 @@ pub record Searched (M : Machine) (l n : ℕ) (ws : List ℕ) (d : ℕ) (out : L
 pub record ReplyOf (n d : ℕ) (ws : List ℕ) (r : Reply) : Type 0 where
   pub refusal : r .refusal ≡ 0
   pub long : length (r .set) ≡ rowWords
+  pub small : (k : ℕ) → k < rowWords → getD (r .set) k 0 < 2 ^ 64
   pub no : d < n → (r .yes ≡ false) × (r .d ≡ d) × ((k : ℕ) → k < rowWords → getD (r .set) k 0 ≡ getD ws (d * stride + rowWords + k) 0)
   pub yes : n ≤ d → (r .yes ≡ true) × (r .d ≡ 0) × ((k : ℕ) → _≡_ {A = ℕ} (getD (r .set) k 0) 0)
 
@@ -55,6 +56,7 @@ pub record ReplyOf (n d : ℕ) (ws : List ℕ) (r : Reply) : Type 0 where
 pub record Decided (M : Machine) (l n : ℕ) (was : List ℕ) (r : Reply) (now : List ℕ) : Type 0 where
   pub refusal : r .refusal ≡ 0
   pub long : length (r .set) ≡ rowWords
+  pub small : (k : ℕ) → k < rowWords → getD (r .set) k 0 < 2 ^ 64
   pub rows : (i : ℕ) → i < n → RowOf M l i (stateRow M l i)
   pub no : r .yes ≡ false → FirstOf M l n (r .d) (bitsOf (r .set))
   pub yes : r .yes ≡ true → IndependentRows (64 * rowWords) (stateRow M l) n × (r .d ≡ 0) × ((i : ℕ) → bitsOf (r .set) i ≡ false)

@@ -1,7 +1,7 @@
 use Rattle.document.specs.Limits.{rowWords}
 use Rattle.running.specs.Theorems.{prepared-ready, prepared-size}
 use Rattle.filling.specs.Theorems.{ready-size, ready-bits, prepared-bits, bits-width}
-use Rattle.question.proofs.Laws.{all-passed, zeros, answered}
+use Rattle.question.proofs.Laws.{all-passed, zeros, zeros-small, answered}
 use mathlib.Core.Path.{_≡_, refl, sym, ap, _∙_}
 use Prim.Native.Nat.{ℕ, zero, suc, _+_, _*_, _≤_, _<_, _-_}
 use native.Mathlib.Omega.{arith}
@@ -22,7 +22,7 @@ question-refusal-requires c κs = search needs
 
 -- src/lib.rt:116:9
 returns : tie.Need-returns
-returns c = record { refusal = c .before .question-refusal .ensures; words = refl; answer = λ e. absurd (c .if1 .taken e); memory = λ e. absurd (c .if1 .taken e); refused = λ _. (refl, refl, zeros rowWords, refl) }
+returns c = record { refusal = c .before .question-refusal .ensures; long = refl; small = λ k h. zeros-small rowWords k; answer = λ e. absurd (c .if1 .taken e); memory = λ e. absurd (c .if1 .taken e); refused = λ _. (refl, refl, zeros rowWords, refl) }
 
 -- src/lib.rt:118:9
 prepare-requires : tie.Need-prepare-requires
@@ -42,7 +42,7 @@ same-length c = search needs
 
 -- src/lib.rt:111:1
 returns-2 : tie.Need-returns-2
-returns-2 c = let x = all-passed _ _ _ _ (sym (c .before .before .before .before .before .before .before .question-refusal .ensures) ∙ c .before .before .before .before .before .before .if1 .left) in let y = c .before .before .before .before .before .prepare .ensures in let d = c .before .before .decide .ensures in record { refusal = d .refusal ∙ sym (sym (c .before .before .before .before .before .before .before .question-refusal .ensures) ∙ c .before .before .before .before .before .before .if1 .left); words = d .long; answer = λ _. answered _ _ (x .accepted) y _ _ (x .l-least) (omega (arith, x .l-most, bits-width _ _ (x .accepted) y)) _ (rw (prepared-size _ _ (x .accepted) y) at (c .before .before .before .before .enough .ensures)) _ _ _ d; memory = λ _. d .memory; refused = λ n. absurd (n (d .refusal)) }
+returns-2 c = let x = all-passed _ _ _ _ (sym (c .before .before .before .before .before .before .before .question-refusal .ensures) ∙ c .before .before .before .before .before .before .if1 .left) in let y = c .before .before .before .before .before .prepare .ensures in let d = c .before .before .decide .ensures in record { refusal = d .refusal ∙ sym (sym (c .before .before .before .before .before .before .before .question-refusal .ensures) ∙ c .before .before .before .before .before .before .if1 .left); long = d .long; small = d .small; answer = λ _. answered _ _ (x .accepted) y _ _ (x .l-least) (omega (arith, x .l-most, bits-width _ _ (x .accepted) y)) _ (rw (prepared-size _ _ (x .accepted) y) at (c .before .before .before .before .enough .ensures)) _ _ _ d; memory = λ _. d .memory; refused = λ n. absurd (n (d .refusal)) }
 
 pub question-spec : {M : Type 1} → statement M
 question-spec =
