@@ -1,0 +1,3 @@
+-- What the contracts of `filling` cite (Rows), and what callers conclude from them (Theorems).
+pub mod Rows
+pub mod Theorems
