@@ -1,0 +1,3 @@
+pub mod Promises
+pub mod Firsts
+pub mod Theorems
