@@ -4,10 +4,15 @@ ghost use mathlib.Core.Path.{_≡_};
 ghost use Rattle.description.specs.Promises.{ReadAs, WrittenAs};
 ghost use Rattle.outputs.specs.Promises.{RanAs};
 ghost use Rattle.value.specs.Promises.{ValuedAs};
+ghost use Rattle.question.specs.Promises.{Asked};
+ghost use Rattle.report.specs.Promises.{ReportedAs};
 use description::Reading;
 use document::Dimension;
 use document::Fields;
 use document::ROW_WORDS;
+use document::Resolution;
+use question::Reply;
+use report::Report;
 use value::Valued;
 
 // A start state, or a set: bit i is worth 2^(i mod 64) in word i div 64.
@@ -43,4 +48,18 @@ pub extern "C" fn dayunglipo_value(y: u64, l: u32) -> Valued
     ensures { λ r. ⌜ ValuedAs y l r ⌝ }
 {
     value::value(y, l)
+}
+
+#[no_mangle]
+pub extern "C" fn dayunglipo_question(g: Fields, t: usize, l: usize, work: &mut [u64]) -> Reply
+    ensures { λ r. ⌜ Asked g (record { 0 = t }) (record { 0 = l }) (now (work .entry)) r (now (work .exit)) ⌝ }
+{
+    question::question(g, Dimension(t), Resolution(l), work)
+}
+
+#[no_mangle]
+pub extern "C" fn dayunglipo_report(g: Fields, work: &mut [u64]) -> Report
+    ensures { λ r. ⌜ ReportedAs g (now (work .entry)) r (now (work .exit)) ⌝ }
+{
+    report::report(g, work)
 }
