@@ -2,6 +2,7 @@
 //! in plain text, or the self-test.
 
 mod selftest;
+mod vectors;
 
 use second::{Fields, Report, WORK_WORDS};
 use std::io::{Read, Write};
@@ -15,19 +16,31 @@ const USAGE: &str = "usage: second CALL, with a raw description on standard inpu
 without input:
   value Y L
   selftest [SEED]
+  published | asked          what those programs of the build must print
+  published-input | asked-input
 numbers are decimal, or hexadecimal after 0x";
 
 fn main() -> ExitCode {
     let arguments: Vec<String> = std::env::args().skip(1).collect();
-    match answer(&arguments) {
-        Some(text) => {
-            let written = std::io::stdout().write_all(text.as_bytes());
+    let bytes = raw(&arguments).or_else(|| answer(&arguments).map(String::into_bytes));
+    match bytes {
+        Some(bytes) => {
+            let written = std::io::stdout().write_all(&bytes);
             ExitCode::from(u8::from(written.is_err()))
         }
         None => {
             eprintln!("{USAGE}");
             ExitCode::from(2)
         }
+    }
+}
+
+/// Answers that are bytes and not text.
+fn raw(arguments: &[String]) -> Option<Vec<u8>> {
+    match arguments {
+        [call] if call == "published-input" => Some(vectors::published_input()),
+        [call] if call == "asked-input" => Some(vectors::asked_input()),
+        _ => None,
     }
 }
 
@@ -48,6 +61,8 @@ fn answer(arguments: &[String]) -> Option<String> {
         ("question", &[t, l]) => Some(on_description(|fields| question_text(fields, t, l))),
         ("basis", &[t, l]) => Some(on_description(|fields| basis_text(fields, t, l))),
         ("value", &[y, l]) => Some(value_text(y, l)),
+        ("published", []) => Some(vectors::published_text()),
+        ("asked", []) => Some(vectors::asked_text()),
         ("selftest", []) => Some(selftest::run(selftest::USUAL_SEED)),
         ("selftest", &[seed]) => Some(selftest::run(seed)),
         _ => None,
