@@ -1,6 +1,6 @@
 -- From the rows in a buffer to the basis.
 use mathlib.Core.Path.{_≡_, refl, sym, ap, subst, _∙_}
-use mathlib.Core.Bool.{Bool, false, _&&_}
+use mathlib.Core.Bool.{Bool, false, _&&_, true≢false}
 use mathlib.Core.List.{List}
 use mathlib.Core.Logic.{by-cases}
 use native.Mathlib.Decide.{decLt}
@@ -13,10 +13,12 @@ use lib.ListN.{length, getD, take, drop, length-take, length-drop, List·getD-eq
 use lib.Seq.{getD-take, getD-drop, length-take-le}
 use Rattle.theory.specs.Def.{xorsum, unit, Spanned, Reduced}
 use Rattle.theory.specs.Laws.{xorsum-cong}
-use Rattle.theory.specs.Sums.{pair-unit}
+use Rattle.theory.specs.Sums.{pair-unit, pair-none}
 use Rattle.digits.specs.Def.{Word, digit, bitsOf, bitsFrom}
 use Rattle.digits.specs.Laws.{digit-zero}
 use Rattle.kinds.specs.Generator.{Machine}
+use Rattle.kinds.specs.Rows.{bit-first}
+use Rattle.document.specs.Cells.{bitOf}
 use Rattle.document.specs.declared.Fields.{Fields}
 use Rattle.document.specs.declared.Dimension.{Dimension}
 use Rattle.document.specs.declared.Resolution.{Resolution}
@@ -38,12 +40,14 @@ use Rattle.reduction.specs.Theorems as Reduction
 use Rattle.reduction.proofs.Packs.{packed-bit}
 use Rattle.filling.specs.Rows.{stride, stateRow, Filled}
 use Rattle.basis.specs.Promises.{basisRow, Based, Handed}
+use Rattle.basis.specs.First.{machine-sets}
 use Rattle.basis.specs.Theorems.{row-word}
 
 -- ---- where nothing refuses
 
 pub record Passed (g : Fields) (t l room : ℕ) : Type 0 where
   pub accepted : Accepted g
+  pub t-least : 1 ≤ t
   pub t-most : t ≤ size g
   pub l-least : 1 ≤ l
   pub l-most : l ≤ g .bits
@@ -60,7 +64,10 @@ all-passed g t l room e =
     let (b₄, e₆) = passed 10 (ltb room workWords) _ e₅ in
     let (t₁, t₂) = inside 1 (size g) t b₁ in
     let (l₁, l₂) = inside 1 (g .bits) l b₂ in
-    record { accepted = accepted g e₁; t-most = t₂; l-least = l₁; l-most = l₂; product = ltb-false (size g) (t * l) b₃; enough = ltb-false room workWords b₄ }
+    record { accepted = accepted g e₁; t-least = t₁; t-most = t₂; l-least = l₁; l-most = l₂; product = ltb-false (size g) (t * l) b₃; enough = ltb-false room workWords b₄ }
+
+pub product-some : (t l : ℕ) → 1 ≤ t → 1 ≤ l → 0 < t * l
+product-some t l h k = let e : 1 * 1 ≤ t * l = mul-le-mul h k in omega arith
 
 pub product-small : (k t l : ℕ) → k ≤ mostBits → t ≤ k → l ≤ mostOutput → t * l ≤ mostBits * mostOutput
 product-small k t l h a b = let c : t ≤ mostBits = omega arith in mul-le-mul c b
@@ -145,6 +152,19 @@ module _ (g : Fields) (p : Prepared) (a : Accepted g) (y : PreparedFor g p) (t l
         all = λ i h. spanned-like (λ _ _ _ _. refl) (λ b f. sym (named i h b f)) (subst (λ k. Spanned k rank (basisRow now) (stateRow (machineOf p) l i)) e (x .all i h));
       }
 
+  -- the row of output bit 0 is not zero
+  pub rank-some : 0 < t * l → 0 < rank
+  unfolding bitOf xorsum
+  rank-some h =
+      by-cases (decLt 0 rank) (λ k. k)
+      (λ k. let e : rank ≡ 0 = omega arith in
+      let q = row-prepared g p a y l 0 (stateRow (machineOf p) l 0) lo hi (x .rows 0 h) in
+      let (s, o) = machine-sets g a in
+      absurd
+      (true≢false
+      (sym o ∙ sym (bit-first (machine g) l 0 s lo) ∙ sym (q .sum s)
+      ∙ pair-none (size g) (stateRow (machineOf p) l 0) s (λ b f. rw e at (x .all 0 h .sum b (omega (arith, prepared-size g p a y)))))))
+
 -- ---- the part that is handed back
 
 basis-like : (M : Machine) (t l n : ℕ) (R Q : ℕ → Word) → ((i : ℕ) → i < n → (b : ℕ) → Q i b ≡ R i b) → BasisOf M t l n R → BasisOf M t l n Q
@@ -171,6 +191,7 @@ module _ (g : Fields) (t : Dimension) (l : Resolution) (words : ℕ) (now : List
       let e : length (take words now) ≡ words = length-take-le words now fits in
       record {
         rank = x .rank;
+        some = x .some;
         count = e ∙ x .count;
         rows = basis-like (machine g) (t .0) (l .0) (x .rank) (basisRow now) (basisRow (take words now)) part-bits (x .rows);
         small = λ i h. rw (getD-take words now i 0 (omega arith)) (x .small i (omega arith));

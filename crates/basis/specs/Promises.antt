@@ -34,9 +34,10 @@ pub record Based (M : Machine) (l n : ℕ) (was : List ℕ) (rank : ℕ) (now : 
   pub zeros : (j : ℕ) → rowWords * rank ≤ j → j < workWords → getD now j 0 ≡ 0
   pub rest : (j : ℕ) → workWords ≤ j → getD now j 0 ≡ getD was j 0
 
--- the first `words` words are the rows of the basis, "8 words for each unit of rank"
+-- the first `words` words are the rows of the basis, "8 words for each unit of rank"; "the rank is never 0"
 pub record Handed (g : Fields) (t : Dimension) (l : Resolution) (words : ℕ) (now : List ℕ) : Type 0 where
   pub rank : ℕ
+  pub some : 0 < rank
   pub count : words ≡ rowWords * rank
   pub rows : BasisOf (machine g) (t .0) (l .0) rank (basisRow now)
   pub small : (i : ℕ) → i < words → getD now i 0 < 2 ^ 64

@@ -1,6 +1,6 @@
 use Rattle.running.specs.Theorems.{prepared-ready, prepared-size}
 use Rattle.filling.specs.Theorems.{ready-size, size-most, prepared-bits, bits-width}
-use Rattle.basis.proofs.Laws.{all-passed, basis-of}
+use Rattle.basis.proofs.Laws.{all-passed, basis-of, rank-some, product-some}
 use mathlib.Core.Path.{_≡_, refl, sym, ap, _∙_}
 use Prim.Native.Nat.{ℕ, zero, suc, _+_, _*_, _≤_, _<_, _-_}
 use native.Mathlib.Omega.{arith}
@@ -44,7 +44,7 @@ same-length c = search needs
 
 -- src/lib.rt:63:1
 returns-2 : tie.Need-returns-2
-returns-2 c = let x = all-passed _ _ _ _ (sym (c .before .before .before .before .before .before .before .before .basis-check .ensures) ∙ c .before .before .before .before .before .before .before .if1 .left) in let y = c .before .before .before .before .before .before .prepare .ensures in let r = prepared-ready _ _ (x .accepted) y in let d = c .before .before .reduced-rows .ensures in let f = size-most _ _ (x .accepted) y in record { refusal = sym (sym (c .before .before .before .before .before .before .before .before .basis-check .ensures) ∙ c .before .before .before .before .before .before .before .if1 .left); rows = λ _. record { rank = c .before .before .reduced-rows .result; count = refl; rows = basis-of _ _ (x .accepted) y _ _ (x .l-least) (omega (arith, x .l-most, bits-width _ _ (x .accepted) y)) _ _ _ d; small = λ i h. omega (arith, c .slice-known2 .given i) }; zeros = λ _. d .zeros; rest = λ _. d .rest; long = d .long; within = omega (arith, d .few, x .product, f, x .enough); refused = λ n. absurd (n refl) }
+returns-2 c = let x = all-passed _ _ _ _ (sym (c .before .before .before .before .before .before .before .before .basis-check .ensures) ∙ c .before .before .before .before .before .before .before .if1 .left) in let y = c .before .before .before .before .before .before .prepare .ensures in let r = prepared-ready _ _ (x .accepted) y in let d = c .before .before .reduced-rows .ensures in let f = size-most _ _ (x .accepted) y in record { refusal = sym (sym (c .before .before .before .before .before .before .before .before .basis-check .ensures) ∙ c .before .before .before .before .before .before .before .if1 .left); rows = λ _. record { rank = c .before .before .reduced-rows .result; some = rank-some _ _ (x .accepted) y _ _ (x .l-least) (omega (arith, x .l-most, bits-width _ _ (x .accepted) y)) _ _ _ d (product-some _ _ (x .t-least) (x .l-least)); count = refl; rows = basis-of _ _ (x .accepted) y _ _ (x .l-least) (omega (arith, x .l-most, bits-width _ _ (x .accepted) y)) _ _ _ d; small = λ i h. omega (arith, c .slice-known2 .given i) }; zeros = λ _. d .zeros; rest = λ _. d .rest; long = d .long; within = omega (arith, d .few, x .product, f, x .enough); refused = λ n. absurd (n refl) }
 
 pub basis-rows-spec : {M : Type 1} → statement M
 basis-rows-spec =
