@@ -81,8 +81,8 @@ module _ (g : Fields) (t : Dimension) (l : Resolution) (was : List ℕ) (r s : B
       let (c, d) = y .refused (λ e. n (number ∙ e)) in
       (same-reply r s number (a ∙ sym c), b ∙ sym d)
 
-  pub bases-agree-here : (r ≡ s) × (now ≡ then)
-  bases-agree-here = by-cases (ℕ-discrete (r .refusal) 0) based refused
+  pub replies-agree : (r ≡ s) × (now ≡ then)
+  replies-agree = by-cases (ℕ-discrete (r .refusal) 0) based refused
 
 -- two parts that the promise of `basis` allows are one
 pub parts-agree : (g : Fields) (t : Dimension) (l : Resolution) (room : ℕ) (a b : List ℕ) → BasisPart g t l room a → BasisPart g t l room b → a ≡ b
