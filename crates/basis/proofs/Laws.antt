@@ -22,7 +22,7 @@ use Rattle.document.specs.Cells.{bitOf}
 use Rattle.document.specs.declared.Fields.{Fields}
 use Rattle.document.specs.declared.Dimension.{Dimension}
 use Rattle.document.specs.declared.Resolution.{Resolution}
-use Rattle.document.specs.Limits.{rowWords, mostBits, mostOutput, workWords}
+use Rattle.document.specs.Limits.{rowWords, mostBits, workWords}
 use Rattle.document.specs.Generator.{machine, size}
 use Rattle.document.specs.Refusals.{fieldCases, outside, basisRefusal}
 use Rattle.document.specs.Lowest.{field-rises, after}
@@ -68,9 +68,6 @@ all-passed g t l room e =
 
 pub product-some : (t l : ℕ) → 1 ≤ t → 1 ≤ l → 0 < t * l
 product-some t l h k = let e : 1 * 1 ≤ t * l = mul-le-mul h k in omega arith
-
-pub product-small : (k t l : ℕ) → k ≤ mostBits → t ≤ k → l ≤ mostOutput → t * l ≤ mostBits * mostOutput
-product-small k t l h a b = let c : t ≤ mostBits = omega arith in mul-le-mul c b
 
 -- ---- rows that agree in the bits that count
 

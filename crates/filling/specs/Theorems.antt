@@ -5,6 +5,7 @@ use mathlib.Core.List.{List}
 use mathlib.Core.Logic.{by-cases}
 use native.Mathlib.Decide.{decLt, ℕ-discrete}
 use Prim.Native.Nat.{ℕ, suc, _+_, _*_, _≤_, _<_}
+use native.Mathlib.Nat.{mul-le-mul}
 use native.Mathlib.Omega.{arith}
 use lib.Dec.{leb}
 use borrow.Author.Tests.{le-leb, lt-leb}
@@ -43,6 +44,10 @@ ready-bits p x =
     (λ n. by-cases (ℕ-discrete (p .kind) 2)
     (λ e. let y = x .two e .words in omega (arith, y .bits, y .narrow))
     (λ o. let y = x .other n o .words in omega (arith, y .bits, y .narrow)))
+
+-- so that t·l is computed with room to spare
+pub product-small : (k t l : ℕ) → k ≤ mostBits → t ≤ k → l ≤ mostOutput → t * l ≤ mostBits * mostOutput
+product-small k t l h a b = let c : t ≤ mostBits = omega arith in mul-le-mul c b
 
 pub not-yes : (b : Bool) → ¬ (b ≡ true) → b ≡ false
 not-yes true n = absurd (n refl)

@@ -1,3 +1,4 @@
+-- `basis::basis` meets its contract.
 use lib.Seq.{length-take-le}
 use Rattle.basis.proofs.Laws.{part-handed}
 use mathlib.Core.Path.{_≡_, refl, sym, ap, _∙_}

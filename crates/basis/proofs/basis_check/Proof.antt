@@ -1,3 +1,4 @@
+-- `basis::basis_check` meets its contract.
 use Rattle.document.specs.Limits.{mostOutput}
 use lib.Dec.{ltb}
 use borrow.Author.Tests.{lt-ltb, le-ltb}
@@ -6,8 +7,7 @@ use Rattle.document.specs.Lowest.{gives, skips, none-left, first-of, then-of, f
 use Rattle.document.specs.Ranges.{inside}
 use Rattle.document.specs.Theorems.{ranges}
 use Rattle.running.specs.Theorems.{prepared-ready, prepared-size}
-use Rattle.filling.specs.Theorems.{ready-size, ready-bits, prepared-bits}
-use Rattle.basis.proofs.Laws.{product-small}
+use Rattle.filling.specs.Theorems.{ready-size, ready-bits, product-small, prepared-bits}
 use mathlib.Core.Path.{_≡_, refl, sym, ap, _∙_}
 use Prim.Native.Nat.{ℕ, zero, suc, _+_, _*_, _≤_, _<_, _-_}
 use native.Mathlib.Omega.{arith}

@@ -1,3 +1,4 @@
+-- `basis::basis_rows` meets its contract.
 use Rattle.running.specs.Theorems.{prepared-ready, prepared-size}
 use Rattle.filling.specs.Theorems.{ready-size, size-most, prepared-bits, bits-width}
 use Rattle.basis.proofs.Laws.{all-passed, basis-of, rank-some, product-some}

@@ -1,3 +1,4 @@
+-- `basis::reduced_rows` meets its contract.
 use Rattle.filling.specs.Theorems.{ready-size}
 use Rattle.basis.proofs.Laws.{based}
 use mathlib.Core.Path.{_≡_, refl, sym, ap, _∙_}
