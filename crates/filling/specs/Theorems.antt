@@ -1,10 +1,11 @@
 -- What callers conclude from the contracts of `fill` and `first_dependent`, for a generator that is prepared of a description's fields.
-use mathlib.Core.Path.{_≡_, refl, sym, ap, _∙_}
+use mathlib.Core.Path.{_≡_, refl, sym, _∙_}
 use mathlib.Core.Bool.{Bool, true, false}
 use mathlib.Core.List.{List}
 use mathlib.Core.Logic.{by-cases}
 use native.Mathlib.Decide.{decLt, ℕ-discrete}
-use Prim.Native.Nat.{ℕ, suc, _+_, _*_, _≤_, _<_}
+use Prim.Native.Nat.{ℕ, _+_, _*_, _≤_, _<_}
+use native.Mathlib.Nat.{mul-le-mul}
 use native.Mathlib.Omega.{arith}
 use lib.Dec.{leb}
 use borrow.Author.Tests.{le-leb, lt-leb}
@@ -23,8 +24,7 @@ use Rattle.running.specs.Theorems.{prepared-ready, prepared-size, prepared-widt
 use Rattle.rows.specs.Theorems.{RowOf, row-prepared, row-cell}
 use Rattle.span.specs.Def.{RowsOf}
 use Rattle.span.specs.Theorems as Span
-use Rattle.elimination.specs.Rows.{rowsOf}
-use Rattle.filling.specs.Rows.{stride, stateRow, Filled, FirstDependent}
+use Rattle.filling.specs.Rows.{stateRow, FirstDependent}
 
 -- a state has no more bits than a row
 pub ready-size : (p : Prepared) → Ready p → p .k ≤ mostBits
@@ -43,6 +43,10 @@ ready-bits p x =
     (λ n. by-cases (ℕ-discrete (p .kind) 2)
     (λ e. let y = x .two e .words in omega (arith, y .bits, y .narrow))
     (λ o. let y = x .other n o .words in omega (arith, y .bits, y .narrow)))
+
+-- so that t·l is computed with room to spare
+pub product-small : (k t l : ℕ) → k ≤ mostBits → t ≤ k → l ≤ mostOutput → t * l ≤ mostBits * mostOutput
+product-small k t l h a b = let c : t ≤ mostBits = omega arith in mul-le-mul c b
 
 pub not-yes : (b : Bool) → ¬ (b ≡ true) → b ≡ false
 not-yes true n = absurd (n refl)
@@ -98,6 +102,6 @@ module _ (g : Fields) (p : Prepared) (a : Accepted g) (y : PreparedFor g p) wher
           (λ h. not-yes _ (λ e. uneven-above (t * l) h (yes-is-even (machine g) (machine-linear g) t l .0 e)) ∙ sym (lt-leb (t * l) d h))
           (λ h. let f : t * l ≤ d = omega arith in yes-is-even (machine g) (machine-linear g) t l .1 (even-below (t * l) f) ∙ sym (le-leb (t * l) d f))
 
-      -- no state bit is left over
+      -- there are no more independent output bits than state bits
       pub few : d ≤ size g
       few = Span.bound cells linear d (omega arith) (x .before)

@@ -5,7 +5,7 @@ use mathlib.Core.List.{List}
 use mathlib.Core.Logic.{by-cases}
 use native.Mathlib.Decide.{decLt}
 use Prim.Native.Nat.{ℕ, zero, suc, _+_, _*_, _/_, _%_, _^_, _≤_, _<_}
-use native.Mathlib.Nat.{zero-add, mul-le-mul}
+use native.Mathlib.Nat.{zero-add}
 use native.Mathlib.Omega.{arith}
 use borrow.Author.Tests.{ltb-false}
 use lib.Dec.{ltb, lit<}
@@ -16,7 +16,7 @@ use Rattle.digits.specs.Def.{digit, bitsOf, bitsFrom}
 use Rattle.digits.specs.Laws.{digit-zero}
 use Rattle.kinds.specs.Generator.{Machine}
 use Rattle.document.specs.declared.Fields.{Fields}
-use Rattle.document.specs.Limits.{rowWords, mostBits, mostOutput, workWords}
+use Rattle.document.specs.Limits.{rowWords, mostBits, workWords}
 use Rattle.document.specs.Generator.{machine, size}
 use Rattle.document.specs.Refusals.{fieldCases, outside, questionRefusal}
 use Rattle.document.specs.Lowest.{field-rises, after}
@@ -62,9 +62,6 @@ all-passed g t l room e =
     let (t₁, t₂) = inside 1 (size g) t b₁ in
     let (l₁, l₂) = inside 1 (g .bits) l b₂ in
     record { accepted = accepted g e₁; t-least = t₁; t-most = t₂; l-least = l₁; l-most = l₂; enough = ltb-false room workWords b₃ }
-
-pub product-small : (k t l : ℕ) → k ≤ mostBits → t ≤ k → l ≤ mostOutput → t * l ≤ mostBits * mostOutput
-product-small k t l h a b = let c : t ≤ mostBits = omega arith in mul-le-mul c b
 
 pub zeros : (n i : ℕ) → _≡_ {A = ℕ} (getD (replicate n 0) i 0) 0
 zeros zero i = refl

@@ -28,18 +28,18 @@ pub struct Reply {
 }
 
 // What refuses a question: the fields, then t, l and the room.
-pub fn question_refusal(g: Fields, t: usize, l: usize, room: usize) -> u32
-    ensures { λ r. ⌜ r ≡ questionRefusal g t l room ⌝ }
+fn question_refusal(g: Fields, t: Dimension, l: Resolution, room: usize) -> u32
+    ensures { λ r. ⌜ r ≡ questionRefusal g (t .0) (l .0) room ⌝ }
 {
     let refusal = fields::field_refusal(g);
     if refusal != 0 {
         return refusal;
     }
     let p = running::prepare(g);
-    if fields::outside(1, p.k, t) {
+    if fields::outside(1, p.k, t.0) {
         return 7;
     }
-    if fields::outside(1, p.bits, l) {
+    if fields::outside(1, p.bits, l.0) {
         return 8;
     }
     if room < WORK_WORDS {
@@ -121,7 +121,7 @@ fn decide(work: &mut [u64], p: Prepared, l: usize, n: usize) -> Reply
 pub fn question(g: Fields, t: Dimension, l: Resolution, work: &mut [u64]) -> Reply
     ensures { λ r. ⌜ Asked g t l (now (work .entry)) r (now (work .exit)) ⌝ }
 {
-    let refusal = question_refusal(g, t.0, l.0, work.len());
+    let refusal = question_refusal(g, t, l, work.len());
     if refusal != 0 {
         return Reply {
             refusal,

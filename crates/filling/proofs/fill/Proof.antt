@@ -1,3 +1,4 @@
+-- `filling::fill` meets its contract.
 use Rattle.running.specs.Prepared.{machineOf}
 use Rattle.filling.specs.Rows.{Filled}
 use Rattle.filling.proofs.Laws.{filled-none, filled-more}

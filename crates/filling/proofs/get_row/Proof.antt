@@ -1,3 +1,4 @@
+-- `filling::get_row` meets its contract.
 use Rattle.document.specs.Limits.{rowWords}
 use Rattle.filling.proofs.Laws.{Got, got-more}
 use mathlib.Core.Path.{_≡_, refl, sym, ap, _∙_}

@@ -1,3 +1,4 @@
+-- `filling::grow` meets its contract.
 use Rattle.running.specs.Prepared.{machineOf}
 use Rattle.elimination.proofs.Take.{not-true, not-false}
 use Rattle.filling.proofs.Turn.{Growing, growing-none, made, growing-more, growing-last, growing-all}

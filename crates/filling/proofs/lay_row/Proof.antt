@@ -1,3 +1,4 @@
+-- `filling::lay_row` meets its contract.
 use Rattle.filling.proofs.Turn.{laid}
 use mathlib.Core.Path.{_≡_, refl, sym, ap, _∙_}
 use Prim.Native.Nat.{ℕ, zero, suc, _+_, _*_, _≤_, _<_, _-_}

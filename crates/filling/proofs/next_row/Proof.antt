@@ -1,3 +1,4 @@
+-- `filling::next_row` meets its contract.
 use Rattle.digits.specs.Def.{bitsOf}
 use Rattle.document.specs.Limits.{rowWords}
 use Rattle.running.specs.Prepared.{machineOf}

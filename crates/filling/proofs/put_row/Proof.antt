@@ -1,3 +1,4 @@
+-- `filling::put_row` meets its contract.
 use Rattle.document.specs.Limits.{rowWords}
 use Rattle.elimination.specs.Words.{Written}
 use Rattle.elimination.proofs.Words.{written-none, written-more}

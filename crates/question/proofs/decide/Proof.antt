@@ -1,3 +1,4 @@
+-- `question::decide` meets its contract.
 use Rattle.question.proofs.Laws.{decided}
 use mathlib.Core.Path.{_≡_, refl, sym, ap, _∙_}
 use Prim.Native.Nat.{ℕ, zero, suc, _+_, _*_, _≤_, _<_, _-_}

@@ -1,4 +1,5 @@
-use Rattle.question.proofs.Laws.{product-small}
+-- `question::enough` meets its contract.
+use Rattle.filling.specs.Theorems.{product-small}
 use mathlib.Core.Path.{_≡_, refl, sym, ap, _∙_}
 use Prim.Native.Nat.{ℕ, zero, suc, _+_, _*_, _≤_, _<_, _-_}
 use native.Mathlib.Omega.{arith}

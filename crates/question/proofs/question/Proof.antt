@@ -1,3 +1,4 @@
+-- `question::question` meets its contract.
 use Rattle.document.specs.Limits.{rowWords}
 use Rattle.running.specs.Theorems.{prepared-ready, prepared-size}
 use Rattle.filling.specs.Theorems.{ready-size, ready-bits, prepared-bits, bits-width}

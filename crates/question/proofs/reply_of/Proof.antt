@@ -1,3 +1,4 @@
+-- `question::reply_of` meets its contract.
 use Rattle.question.proofs.Laws.{zeros, zeros-small}
 use Rattle.filling.specs.Rows.{stride}
 use Rattle.document.specs.Limits.{rowWords}
