@@ -1,6 +1,7 @@
 // The listing of a report as text in a lent buffer.
 mod lines;
 mod numbers;
+mod rows;
 
 pub use lines::put_head;
 pub use lines::put_me;
@@ -11,3 +12,5 @@ pub use numbers::put_byte;
 pub use numbers::put_next;
 pub use numbers::put_number;
 pub use numbers::put_word;
+pub use rows::put_dimensions;
+pub use rows::put_resolutions;
