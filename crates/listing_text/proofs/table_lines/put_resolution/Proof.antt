@@ -4,8 +4,8 @@ use Rattle.listing_text.proofs.Laws.{wrote-is}
 use Rattle.listing_text.specs.Text.{resolutionLine}
 use native.Mathlib.Omega.{arith}
 use borrow.Author.Needs.{needs}
-use Rattle.listing_text.proofs.rows.put_resolution.Statement.{statement}
-use Rattle.listing_text.proofs.rows.put_resolution.Tie as tie
+use Rattle.listing_text.proofs.table_lines.put_resolution.Statement.{statement}
+use Rattle.listing_text.proofs.table_lines.put_resolution.Tie as tie
 
 most-dimension-requires : tie.Need-most-dimension-requires
 most-dimension-requires c κs = search needs

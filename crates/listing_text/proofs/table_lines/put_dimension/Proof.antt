@@ -3,8 +3,8 @@ use Rattle.listing_text.proofs.Laws.{wrote-is}
 use Rattle.listing_text.specs.Text.{dimensionLine}
 use native.Mathlib.Omega.{arith}
 use borrow.Author.Needs.{needs}
-use Rattle.listing_text.proofs.rows.put_dimension.Statement.{statement}
-use Rattle.listing_text.proofs.rows.put_dimension.Tie as tie
+use Rattle.listing_text.proofs.table_lines.put_dimension.Statement.{statement}
+use Rattle.listing_text.proofs.table_lines.put_dimension.Tie as tie
 
 most-resolution-requires : tie.Need-most-resolution-requires
 most-resolution-requires c κs = search needs

@@ -6,8 +6,8 @@ use mathlib.Core.Path.{_≡_}
 use native.Mathlib.Omega.{arith}
 use lib.ListN.{getD}
 use borrow.Author.Needs.{needs}
-use Rattle.listing_text.proofs.rows.put_resolutions.Statement.{statement}
-use Rattle.listing_text.proofs.rows.put_resolutions.Tie as tie
+use Rattle.listing_text.proofs.table_lines.put_resolutions.Statement.{statement}
+use Rattle.listing_text.proofs.table_lines.put_resolutions.Tie as tie
 
 abbrev Inv-loop : tie.InvT-loop
 Inv-loop out₀ at k bits table end₀ i₀ out end i = (i ≤ bits) × Wrote (i * lineBytes) out₀ at (linesTo i (λ l. resolutionLine k l (getD table (l - 1) 0))) out end
