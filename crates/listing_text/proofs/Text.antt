@@ -159,10 +159,11 @@ listed {was = was} {text = text} {end = end} bs room q x =
       text = λ _. x .all ∙ ap₂ (λ l n. l ++ drop n was) q e;
       none = λ h. absurd (omega arith);
       kept = λ h. absurd (omega arith);
+      inside = x .inside;
     }
 
 pub listed-not : (bs was : List ℕ) → length was < mostText → Listed bs was 0 was
-listed-not bs was h = record { size = λ g. absurd (omega arith); text = λ g. absurd (omega arith); none = λ _. refl; kept = λ _. refl }
+listed-not bs was h = record { size = λ g. absurd (omega arith); text = λ g. absurd (omega arith); none = λ _. refl; kept = λ _. refl; inside = omega arith }
 
 -- the report that is made of an accepted description can be written, and its page is the listing
 pub record Made (bs : List ℕ) (k L : ℕ) (r : Report) : Type 0 where

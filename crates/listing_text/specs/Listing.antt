@@ -33,6 +33,7 @@ pub record Listed (bs was : List ℕ) (end : ℕ) (now : List ℕ) : Type 0 wher
   pub text : mostText ≤ length was → now ≡ listingOf bs ++ drop (length (listingOf bs)) was
   pub none : length was < mostText → end ≡ 0
   pub kept : length was < mostText → now ≡ was
+  pub inside : end ≤ length was
 
 -- numbers that fit a listing
 pub record Printable (k L : ℕ) (r : Report) : Type 0 where
