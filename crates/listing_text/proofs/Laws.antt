@@ -3,7 +3,7 @@ use mathlib.Core.Path.{_≡_, refl, sym, ap, ap₂, _∙_}
 use mathlib.Core.Bool.{Bool, true, false, cond}
 use mathlib.Core.List.{List, [], _∷_, _++_, append-assoc}
 use mathlib.Core.Logic.{by-cases}
-use Prim.Native.Nat.{ℕ, zero, suc, _+_, _*_, _/_, _%_, _≤_, _<_}
+use Prim.Native.Nat.{ℕ, zero, suc, _+_, _-_, _*_, _/_, _%_, _≤_, _<_}
 use native.Mathlib.Decide.{decLt}
 use native.Mathlib.Numerals.{add-one}
 use native.Mathlib.Omega.{arith}
@@ -11,7 +11,7 @@ use lib.Dec.{ltb}
 use lib.ListN.{length, take, drop, set, getD, length-append, length-set, take-append-drop}
 use lib.Seq.{length-take-le, take-at, drop-append-add, drop-drop, set-split, take-suc, take-length}
 use borrow.Author.Tests.{lt-ltb, le-ltb}
-use Rattle.listing_text.specs.Text.{decimalIn, decimal, mostNumber, numberBytes}
+use Rattle.listing_text.specs.Text.{decimalIn, decimal, mostNumber, numberBytes, lineBytes, linesTo}
 use Rattle.listing_text.specs.Wrote.{Wrote}
 
 -- ---- text after text
@@ -123,3 +123,26 @@ wrote-word was word now at i e x = rw (take-length word) at (rw e at x)
 -- the digits of a tenth leave room for one more
 pub few-more : (n : ℕ) → 10 ≤ n → n < mostNumber → length (decimal (n / 10)) + 1 ≤ numberBytes
 few-more n g h = omega (arith, length-append (decimal (n / 10)) ((48 + n % 10) ∷ []), ap length (decimal-more n g h), decimal-few n)
+
+-- ---- line after line
+
+pub lines-none : (f : ℕ → List ℕ) → linesTo 0 f ≡ []
+unfolding linesTo
+lines-none f = refl
+
+lines-step : (f : ℕ → List ℕ) (i : ℕ) (line : List ℕ) → line ≡ f (i + 1) → linesTo (i + 1) f ≡ linesTo i f ++ line
+unfolding linesTo
+lines-step f i line q = rw q (rw add-one refl)
+
+pub lines-more : {was mid now line : List ℕ} {at e e′ : ℕ} (f : ℕ → List ℕ) (i : ℕ) → line ≡ f (i + 1)
+    → Wrote (i * lineBytes) was at (linesTo i f) mid e → Wrote lineBytes mid e line now e′ → Wrote ((i + 1) * lineBytes) was at (linesTo (i + 1) f) now e′
+lines-more {line = line} f i q x y =
+    wrote-wide {m = i * lineBytes + lineBytes} (rw (lines-step f i line q) (wrote-then x y)) (omega arith)
+
+-- another name for the text
+pub wrote-is : {m : ℕ} {was text now : List ℕ} {at e : ℕ} (other : List ℕ) → text ≡ other → Wrote m was at text now e → Wrote m was at other now e
+wrote-is other q x = rw q at x
+
+-- the line of t = i + 1
+pub at-place : (f : ℕ → ℕ → List ℕ) (table : List ℕ) (i : ℕ) → f (i + 1) (getD table i 0) ≡ f (i + 1) (getD table (i + 1 - 1) 0)
+at-place f table i = let e : i ≡ i + 1 - 1 = omega arith in ap (λ j. f (i + 1) (getD table j 0)) e

@@ -1,2 +1,4 @@
 pub mod Text
 pub mod Wrote
+pub mod Listing
+pub mod Theorems

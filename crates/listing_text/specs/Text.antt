@@ -1,8 +1,9 @@
 -- "The listing program": the text of a report.
 use mathlib.Core.Bool.{Bool, cond}
 use mathlib.Core.List.{List, [], _∷_, _++_}
-use Prim.Native.Nat.{ℕ, zero, suc, _+_, _/_, _%_}
+use Prim.Native.Nat.{ℕ, zero, suc, _+_, _-_, _*_, _/_, _%_, min}
 use lib.Dec.{ltb}
+use Rattle.document.specs.Limits.{mostBits, mostOutput}
 
 -- every number of a listing is below this, and so has at most so many digits
 abbrev pub mostNumber : ℕ
@@ -56,3 +57,28 @@ meLine me = (77 ∷ 69 ∷ 32 ∷ []) ++ (verdict me ++ newLine)
 -- "or `refused N`"
 unfoldable pub refusedLine : ℕ → List ℕ
 refusedLine n = (114 ∷ 101 ∷ 102 ∷ 117 ∷ 115 ∷ 101 ∷ 100 ∷ []) ++ (next n ++ newLine)
+
+-- the lines of 1 to n
+unfoldable pub linesTo : ℕ → (ℕ → List ℕ) → List ℕ
+linesTo zero line = []
+linesTo (suc n) line = linesTo n line ++ line (suc n)
+
+-- the line of a dimension t with the resolution l, and of a resolution l with the dimension t, for k and L
+unfoldable pub dimensionLine : ℕ → ℕ → ℕ → ℕ → List ℕ
+dimensionLine k L t l = rowLine 116 t (min L (k / t)) l (min L (k / t) - l)
+
+unfoldable pub resolutionLine : ℕ → ℕ → ℕ → List ℕ
+resolutionLine k l t = rowLine 108 l (k / l) t (k / l - t)
+
+-- the whole listing of k, L, the resolutions, the dimensions, their sums and ME
+unfoldable pub pageOf : ℕ → ℕ → (ℕ → ℕ) → (ℕ → ℕ) → ℕ → ℕ → Bool → List ℕ
+pageOf k L resolution dimension a b me =
+    headLine k L
+    ++ (linesTo k (λ t. dimensionLine k L t (resolution t))
+    ++ (linesTo L (λ l. resolutionLine k l (dimension l))
+    ++ (sumsLine a b
+    ++ meLine me)))
+
+-- no listing is longer
+abbrev pub mostText : ℕ
+mostText = (mostBits + mostOutput + 3) * lineBytes

@@ -1,13 +1,11 @@
 // The listing of a report as text in a lent buffer.
+mod calling;
 mod lines;
 mod numbers;
+mod pages;
+mod table_lines;
 
-pub use lines::put_head;
-pub use lines::put_me;
-pub use lines::put_refused;
-pub use lines::put_row;
-pub use lines::put_sums;
-pub use numbers::put_byte;
-pub use numbers::put_next;
-pub use numbers::put_number;
-pub use numbers::put_word;
+pub use calling::LINE_BYTES;
+pub use calling::MOST_TEXT;
+pub use calling::listing;
+pub use pages::put_page;

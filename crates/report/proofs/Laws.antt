@@ -2,8 +2,6 @@
 use mathlib.Core.Path.{_≡_, sym, ap, ap₂, subst, _∙_}
 use mathlib.Core.List.{List}
 use Prim.Native.Nat.{ℕ, _+_, _-_, _*_, _≤_, _<_}
-use mathlib.Core.Logic.{by-cases}
-use native.Mathlib.Decide.{ℕ-discrete}
 use native.Mathlib.Omega.{arith}
 use borrow.Author.Count.{below-more}
 use lib.Dec.{leb}
@@ -20,10 +18,10 @@ use Rattle.document.specs.Lowest.{after, field-rises}
 use Rattle.document.specs.Cells.{isYes}
 use Rattle.elimination.specs.Words.{Cleared}
 use Rattle.running.specs.declared.Prepared.{Prepared}
-use Rattle.running.specs.Prepared.{Ready, PreparedFor, machineOf}
-use Rattle.running.specs.Theorems.{prepared-ready, prepared-size, prepared-width}
+use Rattle.running.specs.Prepared.{PreparedFor, machineOf}
+use Rattle.running.specs.Theorems.{prepared-size, prepared-width}
 use Rattle.filling.specs.Rows.{FirstDependent}
-use Rattle.filling.specs.Theorems.{ready-size, answers-all}
+use Rattle.filling.specs.Theorems.{answers-all}
 use Rattle.tables.specs.Tables.{says}
 use Rattle.report.specs.Firsts.{Answers, FirstBits}
 
@@ -63,23 +61,3 @@ unfolding reportRefusal
 report-accepted g room e =
     let (a, b) = after 0 (fieldCases g) _ (field-rises g) e in
     (accepted g a, ltb-false room workWords (passed 10 _ _ b .0))
-
--- an output has no more bits than the most
-pub ready-bits : (p : Prepared) → Ready p → p .bits ≤ mostOutput
-ready-bits p x =
-    by-cases (ℕ-discrete (p .kind) 1)
-    (λ e. x .one e .bits)
-    (λ n. by-cases (ℕ-discrete (p .kind) 2)
-    (λ e. let y = x .two e .words in omega (arith, y .bits, y .narrow))
-    (λ o. let y = x .other n o .words in omega (arith, y .bits, y .narrow)))
-
--- what `first_bits` and `of_first` require of a prepared generator
-pub record Fit (p : Prepared) : Type 0 where
-  pub ready : Ready p
-  pub size : p .k ≤ mostBits
-  pub bits : p .bits ≤ mostOutput
-
-pub prepared-fits : (g : Fields) (p : Prepared) → Accepted g → PreparedFor g p → Fit p
-prepared-fits g p a y =
-    let x = prepared-ready g p a y in
-    record { ready = x; size = ready-size p x; bits = ready-bits p x }

@@ -5,16 +5,22 @@ use mathlib.Core.List.{List}
 use mathlib.Core.Logic.{by-cases}
 use Prim.Native.Nat.{ℕ, _≤_}
 use native.Mathlib.Decide.{ℕ-discrete}
+use native.Mathlib.Omega.{arith}
 use lib.Dec.{eqb}
 use lib.ListN.{length}
 use Rattle.kinds.specs.Generator.{Machine}
 use Rattle.document.specs.declared.Fields.{Fields}
 use Rattle.document.specs.Limits.{mostBits, mostOutput, workWords}
 use Rattle.document.specs.Generator.{machine}
+use Rattle.document.specs.Ranges.{Accepted}
 use Rattle.document.specs.Cells.{isYes}
 use Rattle.document.specs.Refusals.{reportRefusal}
 use Rattle.document.specs.Agreement.{front-unique}
 use Rattle.document.specs.Report.{resolution, dimension, isME}
+use Rattle.running.specs.declared.Prepared.{Prepared}
+use Rattle.running.specs.Prepared.{Ready, PreparedFor}
+use Rattle.running.specs.Theorems.{prepared-ready}
+use Rattle.filling.specs.Theorems.{ready-size}
 use Rattle.tables.specs.Tables.{says}
 use Rattle.tables.specs.Theorems.{entries-agree, resolutions-are, dimensions-are, resolution-sum-is, dimension-sum-is}
 use Rattle.report.specs.declared.reply.Report.{Report}
@@ -62,3 +68,25 @@ made-is M first k L size width answers r x =
       dimension-sum = x .dimension-sum ∙ dimension-sum-is M k L size width b;
       me = x .me ∙ ap (λ n. eqb n 0) s;
     }
+
+-- ---- a prepared generator
+
+-- an output has no more bits than the most
+pub ready-bits : (p : Prepared) → Ready p → p .bits ≤ mostOutput
+ready-bits p x =
+    by-cases (ℕ-discrete (p .kind) 1)
+    (λ e. x .one e .bits)
+    (λ n. by-cases (ℕ-discrete (p .kind) 2)
+    (λ e. let y = x .two e .words in omega (arith, y .bits, y .narrow))
+    (λ o. let y = x .other n o .words in omega (arith, y .bits, y .narrow)))
+
+-- what `first_bits` and `of_first` require of a prepared generator
+pub record Fit (p : Prepared) : Type 0 where
+  pub ready : Ready p
+  pub size : p .k ≤ mostBits
+  pub bits : p .bits ≤ mostOutput
+
+pub prepared-fits : (g : Fields) (p : Prepared) → Accepted g → PreparedFor g p → Fit p
+prepared-fits g p a y =
+    let x = prepared-ready g p a y in
+    record { ready = x; size = ready-size p x; bits = ready-bits p x }

@@ -87,7 +87,7 @@ pub fn dimensions(first: [usize; MOST_OUTPUT], k: usize, bits: usize) -> [u32; M
 }
 
 // What an entry lacks of the most that it can be.
-fn gap(most: usize, entry: u32) -> u32
+pub fn gap(most: usize, entry: u32) -> u32
     requires { ⌜ (entry ≤ most) × (most ≤ mostBits) ⌝ }
     ensures { λ r. ⌜ r ≡ most - entry ⌝ }
 {

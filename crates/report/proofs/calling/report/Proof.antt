@@ -2,8 +2,8 @@ use Rattle.document.specs.Generator.{machine}
 use Rattle.running.specs.Theorems.{prepared-size, prepared-width}
 use Rattle.report.specs.declared.reply.Report.{Report}
 use Rattle.report.specs.Promises.{refusedWith}
-use Rattle.report.specs.Theorems.{made-is}
-use Rattle.report.proofs.Laws.{report-accepted, prepared-fits, says-all, front-cleared}
+use Rattle.report.specs.Theorems.{made-is, prepared-fits}
+use Rattle.report.proofs.Laws.{report-accepted, says-all, front-cleared}
 use mathlib.Core.Path.{refl, sym, ap, _∙_}
 use Prim.Native.Nat.{_-_}
 use native.Mathlib.Omega.{arith}
