@@ -6,6 +6,10 @@ ghost use Rattle.outputs.specs.Promises.{RanAs};
 ghost use Rattle.value.specs.Promises.{ValuedAs};
 ghost use Rattle.question.specs.Promises.{Asked};
 ghost use Rattle.report.specs.Promises.{ReportedAs};
+ghost use Rattle.document.specs.Refusals.{basisRefusal};
+ghost use Rattle.basis.specs.Promises.{BasisRows};
+ghost use Rattle.listing_text.specs.Listing.{Listed};
+use basis::BasisReply;
 use description::Reading;
 use document::Dimension;
 use document::Fields;
@@ -62,4 +66,27 @@ pub extern "C" fn dayunglipo_report(g: Fields, work: &mut [u64]) -> Report
     ensures { λ r. ⌜ ReportedAs g (now (work .entry)) r (now (work .exit)) ⌝ }
 {
     report::report(g, work)
+}
+
+#[no_mangle]
+pub extern "C" fn dayunglipo_basis_check(g: Fields, t: usize, l: usize, room: usize) -> u32
+    ensures { λ r. ⌜ r ≡ basisRefusal g t l room ⌝ }
+{
+    basis::basis_check(g, Dimension(t), Resolution(l), room)
+}
+
+// The rows stand at the front of `work`; the reply counts their words.
+#[no_mangle]
+pub extern "C" fn dayunglipo_basis(g: Fields, t: usize, l: usize, work: &mut [u64]) -> BasisReply
+    ensures { λ r. ⌜ BasisRows g (record { 0 = t }) (record { 0 = l }) (now (work .entry)) r (now (work .exit)) ⌝ }
+{
+    basis::basis_rows(g, Dimension(t), Resolution(l), work)
+}
+
+// The text that the program `listing` prints for these bytes; the reply counts its bytes.
+#[no_mangle]
+pub extern "C" fn dayunglipo_listing(bytes: &[u8], text: &mut [u8]) -> usize
+    ensures { λ r. ⌜ Listed (now (bytes .entry)) (now (text .entry)) r (now (text .exit)) ⌝ }
+{
+    listing_text::listing(bytes, text)
 }
