@@ -27,7 +27,7 @@ get-row-requires c κs = search needs
 
 -- src/lib.rt:93:9
 returns : tie.Need-returns
-returns c = record { refusal = refl; long = search needs; small = λ k h. omega (arith, c .get-row .ensures k h, c .before .before .shared-slice-known .given (c .before .before .before .args .d * stride + rowWords + k)); no = λ _. (refl, refl, c .get-row .ensures); yes = λ h. absurd (omega (arith, c .before .if1 .taken)) }
+returns c = record { refusal = refl; long = search needs; no = λ _. (refl, refl, c .get-row .ensures); small = λ k h. omega (arith, c .get-row .ensures k h, c .before .before .shared-slice-known .given (c .before .before .before .args .d * stride + rowWords + k)); yes = λ h. absurd (omega (arith, c .before .if1 .taken)) }
 
 -- src/lib.rt:87:1
 returns-2 : tie.Need-returns-2
