@@ -1,7 +1,6 @@
 // The listing of one description: raw bytes on standard input, the report as text on standard output.
 ghost use Prim.Native.Nat.{_≤_};
 ghost use lib.ListN.{length};
-
 use libc::STDIN_FILENO;
 use libc::STDOUT_FILENO;
 use listing_text::MOST_TEXT;

@@ -1,3 +1,4 @@
+use lib.Seq.{length-take-le}
 use mathlib.Core.Path.{_≡_, refl, sym, ap, _∙_}
 use Prim.Native.Nat.{ℕ, zero, suc, _+_, _*_, _≤_, _<_, _-_}
 use native.Mathlib.Omega.{arith}
@@ -11,7 +12,7 @@ use Rattle.io.proofs.write_all.Reads as write-all-reads
 
 -- src/main.rt:22:34
 slice-aggregate-write-all : tie.Need-slice-aggregate-write-all
-slice-aggregate-write-all c = search needs
+slice-aggregate-write-all c = sym (length-take-le (c .before .before .args .end) (c .before .before .args .text .now) (search needs))
 
 -- src/main.rt:22:5
 write-all-requires : tie.Need-write-all-requires
