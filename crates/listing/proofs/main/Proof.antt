@@ -1,3 +1,4 @@
+-- `listing::main` meets its contract.
 use lib.Seq.{length-take-le}
 use mathlib.Core.Path.{sym}
 use Prim.Native.Nat.{_-_}
