@@ -1,22 +1,13 @@
-// The listing of one description: raw bytes on standard input, the report as text on standard output.
-ghost use Prim.Native.Nat.{_≤_};
-ghost use lib.ListN.{length};
-use libc::STDIN_FILENO;
-use libc::STDOUT_FILENO;
+// The listing program: one description from standard input, its report or `refused N` to standard output.
 use listing_text::MOST_TEXT;
 
-// One byte more than the longest description is read, so that a longer input is seen to be too long.
-fn main() {
-    let mut input = [0u8; 66];
-    let n = io::read_full(STDIN_FILENO, &mut input);
-    let mut text = [0u8; MOST_TEXT];
-    let end = listing_text::listing(&input[..n], &mut text);
-    print(&text, end);
-}
+// One byte more than the longest description, so that one that is too long is seen.
+const MOST_INPUT: usize = 66;
 
-// Writes the first `end` bytes.
-fn print(text: &[u8], end: usize)
-    requires { ⌜ end ≤ length (now text) ⌝ }
-{
-    io::write_all(STDOUT_FILENO, &text[..end]);
+fn main() {
+    let mut input = [0u8; MOST_INPUT];
+    let mut text = [0u8; MOST_TEXT];
+    let n = io::read_full(0, &mut input);
+    let end = listing_text::listing(&input[..n], &mut text);
+    io::write_all(1, &text[..end]);
 }

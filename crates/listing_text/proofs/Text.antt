@@ -18,7 +18,7 @@ use Rattle.document.specs.Lowest.{skips, none-left, then-of, field-rises}
 use Rattle.document.specs.Ranges.{Accepted, accepted, or-none, passed}
 use Rattle.document.specs.Largest.{largest-is}
 use Rattle.document.specs.Report.{total, mostResolution, resolution, resolutionGap, mostDimension, dimension, dimensionGap, resolutionSum, dimensionSum, isME}
-use Rattle.tables.specs.Tables.{Entries}
+use Rattle.tables.specs.Theorems.{at-place}
 use Rattle.report.specs.declared.reply.Report.{Report}
 use Rattle.running.specs.declared.Prepared.{Prepared}
 use Rattle.running.specs.Prepared.{PreparedFor}
@@ -35,9 +35,6 @@ lines-same : (n : ℕ) (f g : ℕ → List ℕ) → ((i : ℕ) → 1 ≤ i → i
 unfolding linesTo
 lines-same zero f g e = refl
 lines-same (suc n) f g e = ap₂ _++_ (lines-same n f g (λ i p q. e i p (omega arith))) (e (suc n) (omega arith) (omega arith))
-
-at-place : {size n : ℕ} {f : ℕ → ℕ} {table : List ℕ} → Entries size n f table → (t : ℕ) → 1 ≤ t → t ≤ n → getD table (t - 1) 0 ≡ f t
-at-place {f = f} x t p q = x .entry (t - 1) (omega arith) ∙ ap f {x = t - 1 + 1} {y = t} (omega arith)
 
 module _ (M : Machine) (r : Report) (x : ReportOf M r) where
   page-of-size : pageOf (M .size) (M .width) (λ t. getD (r .resolutions) (t - 1) 0) (λ l. getD (r .dimensions) (l - 1) 0) (r .«resolution_sum») (r .«dimension_sum») (r .me) ≡ reportText M

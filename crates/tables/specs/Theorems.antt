@@ -50,7 +50,7 @@ entries-same g q e x =
     }
 
 -- the entry of t at its place
-at-place : {size n : ℕ} {f : ℕ → ℕ} {table : List ℕ} → Entries size n f table → (t : ℕ) → 1 ≤ t → t ≤ n → getD table (t - 1) 0 ≡ f t
+pub at-place : {size n : ℕ} {f : ℕ → ℕ} {table : List ℕ} → Entries size n f table → (t : ℕ) → 1 ≤ t → t ≤ n → getD table (t - 1) 0 ≡ f t
 at-place {f = f} x t p q = x .entry (t - 1) (omega arith) ∙ ap f {x = t - 1 + 1} {y = t} (omega arith)
 
 module _ (M : Machine) (first : List ℕ) (k L : ℕ) (size : k ≡ M .size) (width : L ≡ M .width)

@@ -1,3 +1,4 @@
+-- `tables::dimension_sum` meets its contract. The loop's invariant: the sum is that of the gaps of the resolutions 1 to i, each at most k.
 use Rattle.tables.proofs.Laws.{more, lacks}
 use Prim.Native.Nat.{_+_, _*_, _/_, _≤_, _-_}
 use native.Mathlib.Nat.{div-le-self}

@@ -1,3 +1,4 @@
+-- `tables::dimensions` meets its contract. As `resolutions`, with dimensions and resolutions exchanged.
 use mathlib.Core.Bool.{Bool}
 use Prim.Native.Nat.{ℕ, _+_, _/_, _≤_, _<_, _-_}
 use mathlib.Core.Logic.{⊎-elim}

@@ -1,3 +1,4 @@
+-- `tables::resolution_sum` meets its contract. The loop's invariant: the sum is that of the gaps of the dimensions 1 to i, each at most the width.
 use Rattle.tables.proofs.Laws.{more, lacks}
 use Prim.Native.Nat.{_*_, _/_, _≤_, _-_, min}
 use Rattle.document.specs.Limits.{mostOutput}

@@ -1,3 +1,5 @@
+-- `tables::resolutions` meets its contract. The inner loop keeps that the largest resolution is still to be found from l down; the outer, that the
+-- entries before i are those of the dimensions 1 to i, and that zeros follow.
 use mathlib.Core.Bool.{Bool}
 use Prim.Native.Nat.{ℕ, _+_, _/_, _≤_, _<_, _-_, min}
 use mathlib.Core.Logic.{⊎-elim}

@@ -1,3 +1,4 @@
+-- `tables::yes` meets its contract.
 use native.Mathlib.Nat.{mul-le-mul}
 use mir.Facts.{fits-le, fits-lit}
 use Rattle.tables.specs.Tables.{says}

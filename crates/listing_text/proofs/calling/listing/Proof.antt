@@ -1,3 +1,5 @@
+-- `listing_text::calling::listing` meets its contract. A refused reading gives its line; an accepted one is prepared, its report is that of its
+-- machine, and the page of that is the listing.
 use Rattle.listing_text.proofs.Text.{read-accepted, read-small, listing-refused, listed, listed-not, made}
 use Rattle.listing_text.specs.Text.{refusedLine}
 use mathlib.Core.Path.{sym, ap, _∙_}

@@ -1,3 +1,4 @@
+-- `listing_text::lines::put_head` meets its contract.
 use Rattle.listing_text.proofs.Laws.{wrote-then, wrote-wide}
 use Rattle.listing_text.specs.Text.{headLine}
 use Prim.Native.Nat.{_-_}

@@ -1,3 +1,4 @@
+-- `listing_text::lines::put_verdict` meets its contract.
 use Rattle.listing_text.proofs.Laws.{wrote-as}
 use Prim.Native.Nat.{_-_}
 use native.Mathlib.Omega.{arith}

@@ -1,3 +1,4 @@
+-- `listing_text::numbers::put_byte` meets its contract.
 use Rattle.listing_text.proofs.Laws.{wrote-byte}
 use Prim.Native.Nat.{_-_}
 use borrow.Author.Needs.{needs}

@@ -1,3 +1,4 @@
+-- `listing_text::numbers::put_word` meets its contract. The loop's invariant: the first i bytes of the word are written.
 use Rattle.listing_text.proofs.Laws.{wrote-none, word-more, wrote-word}
 use Rattle.listing_text.specs.Wrote.{Wrote}
 use lib.ListN.{take, length}

@@ -1,3 +1,4 @@
+-- `listing_text::pages::put_page` meets its contract. Part after part, and no part is longer than its lines.
 use mathlib.Core.Path.{ap₂}
 use Rattle.listing_text.specs.Text.{headLine, pageOf}
 use Rattle.listing_text.proofs.Laws.{wrote-then, wrote-wide, wrote-is}

@@ -1,3 +1,4 @@
+-- `listing_text::table_lines::put_dimension` meets its contract.
 use Prim.Native.Nat.{_-_}
 use Rattle.listing_text.proofs.Laws.{wrote-is}
 use Rattle.listing_text.specs.Text.{dimensionLine}

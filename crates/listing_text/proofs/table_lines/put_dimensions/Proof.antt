@@ -1,3 +1,4 @@
+-- `listing_text::table_lines::put_dimensions` meets its contract. The loop's invariant: the lines of the dimensions 1 to i are written.
 use Prim.Native.Nat.{_*_, _≤_, _-_}
 use Rattle.listing_text.proofs.Laws.{wrote-none, lines-none, lines-more, at-place}
 use Rattle.listing_text.specs.Text.{lineBytes, linesTo, dimensionLine}

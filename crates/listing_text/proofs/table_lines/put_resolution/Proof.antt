@@ -1,3 +1,4 @@
+-- `listing_text::table_lines::put_resolution` meets its contract.
 use Prim.Native.Nat.{_-_}
 use native.Mathlib.Nat.{div-le-self}
 use Rattle.listing_text.proofs.Laws.{wrote-is}

@@ -1,3 +1,5 @@
+-- `report::calling::report` meets its contract. No refusal means that the fields are accepted and there is room, so a prepared generator fits, and
+-- its first dependent bits answer every question.
 use Rattle.document.specs.Generator.{machine}
 use Rattle.running.specs.Theorems.{prepared-size, prepared-width}
 use Rattle.report.specs.declared.reply.Report.{Report}

@@ -1,3 +1,5 @@
+-- `report::firsts::first_bits` meets its contract. The loop's invariant: the entries before i answer the questions of the resolutions 1 to i, and
+-- the words behind the work buffer are as they were.
 use borrow.Author.Count.{below-none}
 use Rattle.document.specs.Limits.{mostOutput, workWords}
 use Rattle.report.specs.Firsts.{Answers}

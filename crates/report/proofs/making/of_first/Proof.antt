@@ -1,3 +1,4 @@
+-- `report::making::of_first` meets its contract.
 use Rattle.tables.specs.Tables.{says}
 use Rattle.tables.specs.Theorems.{resolution-bounded, dimension-bounded}
 use Prim.Native.Nat.{_+_, _-_}

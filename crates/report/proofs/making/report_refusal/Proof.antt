@@ -1,3 +1,4 @@
+-- `report::making::report_refusal` meets its contract.
 use borrow.Author.Tests.{lt-ltb, le-ltb}
 use Rattle.document.specs.Refusals.{fieldCases, reportRefusal, fieldRefusal}
 use Rattle.document.specs.Lowest.{gives, skips, none-left, first-of, then-of, field-rises}
