@@ -5,19 +5,32 @@ use crate::types::{Fields, Reading, Valued, Words};
 extern "C" {
     pub fn dayunglipo_read(bytes: *const u8, length: usize) -> Reading;
     pub fn dayunglipo_write(g: Fields, out: *mut u8, room: usize) -> u32;
-    pub fn dayunglipo_outputs(g: Fields, t: usize, state: Words, out: *mut u32, room: usize) -> u32;
+    pub fn dayunglipo_outputs(g: Fields, t: usize, state: Words, out: *mut u32, room: usize)
+        -> u32;
     pub fn dayunglipo_value(y: u64, l: u32) -> Valued;
 }
 
 #[cfg(feature = "question")]
 extern "C" {
-    pub fn dayunglipo_question(g: Fields, t: usize, l: usize, work: *mut u64, room: usize) -> crate::Reply;
+    pub fn dayunglipo_question(
+        g: Fields,
+        t: usize,
+        l: usize,
+        work: *mut u64,
+        room: usize,
+    ) -> crate::Reply;
 }
 
 #[cfg(feature = "basis")]
 extern "C" {
     pub fn dayunglipo_basis_check(g: Fields, t: usize, l: usize, room: usize) -> u32;
-    pub fn dayunglipo_basis(g: Fields, t: usize, l: usize, work: *mut u64, room: usize) -> crate::basis::BasisReply;
+    pub fn dayunglipo_basis(
+        g: Fields,
+        t: usize,
+        l: usize,
+        work: *mut u64,
+        room: usize,
+    ) -> crate::basis::BasisReply;
 }
 
 #[cfg(feature = "report")]
