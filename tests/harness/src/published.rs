@@ -115,8 +115,12 @@ pub fn check(tally: &mut Tally, random: &mut Random) {
         cells(tally, fields);
         Trial::new(fields, 1, 1).report_calls(tally);
     }
-    // A long stride costs the second program most; its outputs alone.
-    runs(tally, random, tausworthe(480, 32, 255, &[1, 240, 480]));
+    // A long stride costs the second program most; a few of its calls.
+    let long = tausworthe(480, 32, 255, &[1, 240, 480]);
+    runs(tally, random, long);
+    for (t, l) in [(15, 32), (16, 32), (30, 16), (40, 1)] {
+        Trial::new(long, t, l).cell_calls(tally);
+    }
 }
 
 /// Outputs from no bits, all bits and random bits.

@@ -50,7 +50,7 @@ impl Tally {
     }
 
     /// Whether the two are the same; prints them and the arguments if not.
-    pub fn same<T: PartialEq + Debug>(
+    pub fn same<T: PartialEq + Debug + ?Sized>(
         &mut self,
         call: &str,
         ours: &T,
