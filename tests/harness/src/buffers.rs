@@ -14,8 +14,7 @@ pub fn check(tally: &mut Tally) {
         let length = bytes_of(&fields).len();
         let whole = Trial::new(fields, 1, 1);
         for guarded in [false, true] {
-            let trial =
-                Trial { guarded, ..whole.clone() }.from_state(state(&mut random, whole.k()));
+            let trial = Trial { guarded, ..whole.clone() }.starting(state(&mut random, whole.k()));
             for byte_room in 0..length + 10 {
                 compare::writing(tally, &Trial { byte_room, ..trial.clone() });
             }

@@ -11,7 +11,7 @@ pub fn check(tally: &mut Tally, random: &mut Random, rounds: u64) {
         let l = random.between(1, fields.bits.into());
         let t = random.between(1, k);
         let within = random.between(1, (k / l).max(1));
-        Trial::new(fields, t, l).from_state(state(random, k)).cheap_calls(tally);
+        Trial::new(fields, t, l).starting(state(random, k)).cheap_calls(tally);
         Trial::new(fields, within, l).cell_calls(tally);
         if round % 4 == round / 4 % 4 {
             Trial::new(fields, t, l).cell_calls(tally);

@@ -130,7 +130,7 @@ fn runs(tally: &mut Tally, random: &mut Random, fields: Fields) {
     (0..k).for_each(|i| all.words[i / 64] |= 1 << (i % 64));
     for start in [Words::default(), all, state(random, k)] {
         for t in [1, k / 2 + 1, k] {
-            Trial::new(fields, t, 1).from_state(start).cheap_calls(tally);
+            Trial::new(fields, t, 1).starting(start).cheap_calls(tally);
         }
     }
 }

@@ -37,7 +37,7 @@ fn trial(random: &mut Random) -> Trial {
     let k = Trial::new(fields, 1, 1).k();
     let t = count(random, k);
     let l = count(random, fields.bits.into());
-    let mut trial = Trial::new(fields, t, l).from_state(start(random, k));
+    let mut trial = Trial::new(fields, t, l).starting(start(random, k));
     trial.guarded = random.once_in(2);
     let shift = random.one_of(&[0, 0, 0, 1, 5, usize::MAX]);
     trial.byte_room = trial.byte_room.wrapping_add(shift);

@@ -38,7 +38,7 @@ impl Trial {
     }
 
     /// The same with a start state.
-    pub fn from_state(self, state: Words) -> Trial {
+    pub fn starting(self, state: Words) -> Trial {
         Trial { state, ..self }
     }
 
