@@ -52,7 +52,9 @@ fn trial(random: &mut Random) -> Trial {
 /// A count that should be 1 to `most`: mostly it is, else it is near or far.
 fn count(random: &mut Random, most: usize) -> usize {
     match random.between(1, 12) {
-        1 => random.one_of(&[0, most + 1, most + 2, 481, 1 << 16, 1 << 32, 1 << 63, usize::MAX]),
+        1 => random.one_of(&[0, most + 1, most + 2, 481, 1 << 63, usize::MAX]),
+        // Cut off to fewer bits it would be in range.
+        4 => random.one_of(&[1 << 8, 1 << 16, 1 << 32]) + random.between(1, most.max(1)),
         2 => random.word() as usize,
         3 => most,
         _ => random.between(1, most.max(1)),

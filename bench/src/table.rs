@@ -1,0 +1,57 @@
+//! The table: one line for a case, with medians and their ratio.
+
+use std::time::{Duration, Instant};
+
+/// Samples of each side.
+const SAMPLES: usize = 41;
+
+/// A sample repeats its work until it takes about so long.
+const LEAST_SAMPLE: Duration = Duration::from_micros(400);
+
+pub fn heading() {
+    println!("{:<58} {:>12} {:>12} {:>8}", "medians", "Rattle us", "Rust us", "ratio");
+}
+
+/// Times both, sample by sample in turn, and prints the line.
+pub fn line(name: &str, mut proved: impl FnMut(), mut plain: impl FnMut()) {
+    let (often, plain_often) = (repetitions(&mut proved), repetitions(&mut plain));
+    let mut times = (Vec::new(), Vec::new());
+    for _ in 0..samples(&mut proved) {
+        times.0.push(sample(&mut proved, often));
+        times.1.push(sample(&mut plain, plain_often));
+    }
+    let (ours, theirs) = (median(times.0), median(times.1));
+    println!("{name:<58} {:>12.2} {:>12.2} {:>8.2}", ours * 1e6, theirs * 1e6, ours / theirs);
+}
+
+/// Fewer samples of what takes long.
+fn samples(work: &mut impl FnMut()) -> usize {
+    let once = sample(work, 1);
+    if once > 0.2 {
+        5
+    } else if once > 0.02 {
+        11
+    } else {
+        SAMPLES
+    }
+}
+
+/// How often a sample repeats the work.
+fn repetitions(work: &mut impl FnMut()) -> u32 {
+    let once = sample(work, 1).max(1e-8);
+    (LEAST_SAMPLE.as_secs_f64() / once).ceil() as u32
+}
+
+/// The seconds of one repetition.
+fn sample(work: &mut impl FnMut(), repetitions: u32) -> f64 {
+    let start = Instant::now();
+    for _ in 0..repetitions {
+        work();
+    }
+    start.elapsed().as_secs_f64() / f64::from(repetitions)
+}
+
+fn median(mut times: Vec<f64>) -> f64 {
+    times.sort_by(f64::total_cmp);
+    times[times.len() / 2]
+}
