@@ -30,8 +30,7 @@ fn gfsr(r: u16, w: u8) -> Fields {
 /// Names and generators. The words of kinds 3 and 4 are those of TT800 and MT19937.
 pub fn cases() -> Vec<(&'static str, Fields)> {
     let words = Fields { r: 15, m: 7, w: 32, bits: 32, s: 7, t: 15, ..Fields::ZERO };
-    let twisted =
-        Fields { kind: 3, a: 0x8ebf_d028, b: 0x2b5b_2500, c: 0xdb8b_0000, ..words };
+    let twisted = Fields { kind: 3, a: 0x8ebf_d028, b: 0x2b5b_2500, c: 0xdb8b_0000, ..words };
     let (a, b, c) = (0x9908_b0df, 0x9d2c_5680, 0xefc6_0000);
     let twister = Fields { kind: 4, a, u: 11, b, c, v: 18, ..words };
     vec![

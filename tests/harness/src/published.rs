@@ -121,6 +121,7 @@ pub fn check(tally: &mut Tally, random: &mut Random) {
     for (t, l) in [(15, 32), (16, 32), (30, 16), (40, 1)] {
         Trial::new(long, t, l).cell_calls(tally);
     }
+    Trial::new(long, 1, 1).report_calls(tally);
 }
 
 /// Outputs from no bits, all bits and random bits.
