@@ -1,7 +1,8 @@
 """Dayunglipo from Python, by ctypes over dist/libdayunglipo.so.
 
 As a program it reads one description from a file or from standard input, and
-prints k, the replies to a few questions, and the report:
+prints its fields, the first outputs, the replies to a few questions, and the
+report:
 
     python3 host/python/dayunglipo.py [FILE]
 """
@@ -189,9 +190,11 @@ def state_bits(fields):
     return fields.k if fields.kind == 1 else fields.r * fields.w - fields.p
 
 
-def members(number):
-    """The set that a whole number stands for."""
-    return [i for i in range(number.bit_length()) if number >> i & 1]
+def print_fields(f):
+    """The kind and the fields, masks in hexadecimal."""
+    print(f"fields kind {f.kind} k {f.k} nu {f.nu} r {f.r} m {f.m} w {f.w} p {f.p} L {f.bits}", end="")
+    print(f" a {f.a:x} U {f.u} S {f.s} b {f.b:x} T {f.t} c {f.c:x} V {f.v}", end="")
+    print(f" coefficients {f.coefficients[0]:02x}{f.coefficients[1]:02x}")
 
 
 def print_questions(library, fields):
@@ -199,15 +202,27 @@ def print_questions(library, fields):
     k, bits = state_bits(fields), fields.bits
     for t, l in sorted({(1, 1), (k, 1), (max(1, k // 2), min(2, bits)), (max(1, k // bits), bits)}):
         yes, d, numbers = library.question(fields, t, l)
-        print(f"question {t} {l}", "yes" if yes else f"no d {d} set {members(numbers)}")
+        words = " ".join(f"{numbers >> (64 * i) & (2**64 - 1):x}" for i in range(ROW_WORDS))
+        print(f"question {t} {l}", "yes" if yes else f"no d {d} set {words}")
+
+
+def print_outputs(library, fields):
+    """The first outputs from the start state with all its bits set, and their values."""
+    k = state_bits(fields)
+    for n, y in enumerate(library.outputs(fields, min(k, 32), 2**k - 1)):
+        print(f"output {n} {y} value {library.value(y, fields.bits):.17g}")
 
 
 def print_report(library, fields):
-    """The numbers of the report."""
-    reply = library.report(fields)
-    print("resolutions", *reply.resolutions[:state_bits(fields)])
-    print("dimensions", *reply.dimensions[:fields.bits])
-    print("sums", reply.resolution_sum, reply.dimension_sum, "ME", "yes" if reply.me else "no")
+    """The lines of the listing, from the numbers of the report."""
+    reply, k = library.report(fields), state_bits(fields)
+    for t, found in enumerate(reply.resolutions[:k], 1):
+        best = min(fields.bits, k // t)
+        print("t", t, best, found, best - found)
+    for l, found in enumerate(reply.dimensions[:fields.bits], 1):
+        print("l", l, k // l, found, k // l - found)
+    print("sum", reply.resolution_sum, reply.dimension_sum)
+    print("ME", "yes" if reply.me else "no")
 
 
 def main(arguments):
@@ -218,10 +233,9 @@ def main(arguments):
     library = Dayunglipo()
     try:
         fields = library.read(data)
-        k = state_bits(fields)
-        print(f"kind {fields.kind} k {k} L {fields.bits}")
-        outputs = library.outputs(fields, min(k, 4), 1)
-        print("outputs", *outputs, "values", *(library.value(y, fields.bits) for y in outputs))
+        print_fields(fields)
+        print(f"k {state_bits(fields)} L {fields.bits}")
+        print_outputs(library, fields)
         if library.has("question"):
             print_questions(library, fields)
         if library.has("report"):
