@@ -6,12 +6,13 @@ use crate::table;
 use dayunglipo::{Fields, Report, WORK_WORDS};
 use std::hint::black_box;
 
+type Plan = fn(&Fields) -> Report;
+
 pub fn time() {
     let mut work = vec![0; WORK_WORDS];
     for (name, g) in cases() {
         let ours = dayunglipo::report(&g, &mut work);
-        let plans: [(&str, fn(&Fields) -> Report); 2] =
-            [("by l", by_resolution), ("by pair", by_pair)];
+        let plans: [(&str, Plan); 2] = [("by l", by_resolution), ("by pair", by_pair)];
         for (plan, plain) in plans {
             assert_eq!(ours, plain(&g), "the reports differ: {name}");
             table::line(

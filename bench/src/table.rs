@@ -12,16 +12,17 @@ pub fn heading() {
     println!("{:<58} {:>12} {:>12} {:>8}", "medians", "Rattle us", "Rust us", "ratio");
 }
 
-/// Times both, sample by sample in turn, and prints the line.
+/// Times both, sample by sample in turn, and prints the line. The ratio is the
+/// median of the pairs' ratios, which a busy machine disturbs least.
 pub fn line(name: &str, mut proved: impl FnMut(), mut plain: impl FnMut()) {
     let (often, plain_often) = (repetitions(&mut proved), repetitions(&mut plain));
-    let mut times = (Vec::new(), Vec::new());
-    for _ in 0..samples(&mut proved) {
-        times.0.push(sample(&mut proved, often));
-        times.1.push(sample(&mut plain, plain_often));
-    }
-    let (ours, theirs) = (median(times.0), median(times.1));
-    println!("{name:<58} {:>12.2} {:>12.2} {:>8.2}", ours * 1e6, theirs * 1e6, ours / theirs);
+    let pairs: Vec<(f64, f64)> = (0..samples(&mut proved))
+        .map(|_| (sample(&mut proved, often), sample(&mut plain, plain_often)))
+        .collect();
+    let ours = median(pairs.iter().map(|pair| pair.0 * 1e6));
+    let theirs = median(pairs.iter().map(|pair| pair.1 * 1e6));
+    let ratio = median(pairs.iter().map(|pair| pair.0 / pair.1));
+    println!("{name:<58} {ours:>12.2} {theirs:>12.2} {ratio:>8.2}");
 }
 
 /// Fewer samples of what takes long.
@@ -51,7 +52,8 @@ fn sample(work: &mut impl FnMut(), repetitions: u32) -> f64 {
     start.elapsed().as_secs_f64() / f64::from(repetitions)
 }
 
-fn median(mut times: Vec<f64>) -> f64 {
-    times.sort_by(f64::total_cmp);
-    times[times.len() / 2]
+fn median(numbers: impl Iterator<Item = f64>) -> f64 {
+    let mut sorted: Vec<f64> = numbers.collect();
+    sorted.sort_by(f64::total_cmp);
+    sorted[sorted.len() / 2]
 }

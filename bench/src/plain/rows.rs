@@ -97,9 +97,7 @@ fn twister_word(g: &Fields) -> impl Fn(&[Row], &mut Vec<Row>) {
         let old = &made[made.len() - r * w..];
         word.extend_from_slice(&old[m * w..(m + 1) * w]);
         let joined = |j: usize| if j < w - p { &old[j] } else { &old[w + j] };
-        for j in 1..w {
-            add(&mut word[j], joined(j - 1));
-        }
+        word.iter_mut().skip(1).enumerate().for_each(|(j, row)| add(row, joined(j)));
         for j in (0..w).filter(|j| a >> (w - 1 - j) & 1 == 1) {
             add(&mut word[j], joined(w - 1));
         }
