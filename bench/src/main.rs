@@ -3,6 +3,7 @@
 //! ratio of the two; the ratio is the result. Both sides' answers are compared.
 
 mod cases;
+mod clock;
 mod elimination;
 mod engine;
 mod outputs;

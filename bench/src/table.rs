@@ -1,19 +1,19 @@
 //! The table: one line for a case, with medians and their ratio.
 
-use std::time::{Duration, Instant};
+use crate::clock::seconds;
 
 /// Samples of each side.
 const SAMPLES: usize = 41;
 
-/// A sample repeats its work until it takes about so long.
-const LEAST_SAMPLE: Duration = Duration::from_micros(400);
+/// A sample repeats its work until it takes about so many seconds.
+const LEAST_SAMPLE: f64 = 400e-6;
 
 pub fn heading() {
     println!("{:<58} {:>12} {:>12} {:>8}", "medians", "Rattle us", "Rust us", "ratio");
 }
 
 /// Times both, sample by sample in turn, and prints the line. The ratio is the
-/// median of the pairs' ratios, which a busy machine disturbs least.
+/// median of the pairs' ratios, as both of a pair meet the same machine.
 pub fn line(name: &str, mut proved: impl FnMut(), mut plain: impl FnMut()) {
     let (often, plain_often) = (repetitions(&mut proved), repetitions(&mut plain));
     let pairs: Vec<(f64, f64)> = (0..samples(&mut proved))
@@ -40,16 +40,16 @@ fn samples(work: &mut impl FnMut()) -> usize {
 /// How often a sample repeats the work.
 fn repetitions(work: &mut impl FnMut()) -> u32 {
     let once = sample(work, 1).max(1e-8);
-    (LEAST_SAMPLE.as_secs_f64() / once).ceil() as u32
+    (LEAST_SAMPLE / once).ceil() as u32
 }
 
-/// The seconds of one repetition.
+/// The processor's seconds for one repetition.
 fn sample(work: &mut impl FnMut(), repetitions: u32) -> f64 {
-    let start = Instant::now();
+    let start = seconds();
     for _ in 0..repetitions {
         work();
     }
-    start.elapsed().as_secs_f64() / f64::from(repetitions)
+    (seconds() - start) / f64::from(repetitions)
 }
 
 fn median(numbers: impl Iterator<Item = f64>) -> f64 {
