@@ -12,6 +12,8 @@ mod questions;
 mod rows;
 #[cfg(feature = "report")]
 mod sums;
+#[cfg(feature = "listing")]
+mod text;
 
 /// Gν: x_n = x_(n−3) + x_(n−4), k = 4, L = 4.
 pub fn g(nu: u8) -> Fields {
@@ -47,6 +49,8 @@ pub fn check(tally: &mut Tally) {
     rows::check(tally);
     #[cfg(feature = "report")]
     sums::check(tally);
+    #[cfg(feature = "listing")]
+    text::check(tally);
 }
 
 /// Cases 14 and 15, by writing.
