@@ -11,7 +11,12 @@ use dayunglipo::{Fields, Words, WORK_WORDS};
 pub fn check(tally: &mut Tally, random: &mut Random, rounds: u64) {
     for round in 0..rounds {
         let trial = trial(random);
-        compare::reading(tally, &damaged_bytes(random, &trial.fields));
+        let bytes = damaged_bytes(random, &trial.fields);
+        compare::reading(tally, &bytes);
+        #[cfg(feature = "listing")]
+        if round % 64 == 1 {
+            compare::listing(tally, &bytes, WORK_WORDS, dayunglipo::TEXT_BYTES);
+        }
         trial.cheap_calls(tally);
         // What is refused costs little; of what is accepted the second program takes long.
         let refused = second::refusal(&crate::convert::widened(&trial.fields)) != 0;
