@@ -1,0 +1,41 @@
+//! Each call, made to both programs with the same arguments: the replies are
+//! compared, and all lent memory with its guards.
+
+mod calls;
+pub use calls::{outputs, reading, value, writing};
+
+#[cfg(feature = "basis")]
+mod basis;
+#[cfg(feature = "basis")]
+pub use basis::{basis, basis_check};
+#[cfg(feature = "listing")]
+mod listing;
+#[cfg(feature = "listing")]
+pub use listing::listing;
+#[cfg(feature = "question")]
+mod question;
+#[cfg(feature = "question")]
+pub use question::question;
+#[cfg(feature = "report")]
+mod report;
+#[cfg(feature = "report")]
+pub use report::report;
+
+use crate::lent::{Element, Lent};
+use crate::tally::Tally;
+
+/// Compares what both programs left in their copies of the lent memory.
+fn memory<T: Element>(
+    tally: &mut Tally,
+    call: &str,
+    ours: &Lent<T>,
+    theirs: &Lent<T>,
+    line: impl FnOnce() -> String,
+) {
+    if let Some((place, got, wanted)) = ours.difference(theirs) {
+        tally.mismatch(
+            call,
+            &format!("{}: at place {place} got {got:x?}, wanted {wanted:x?}", line()),
+        );
+    }
+}
