@@ -11,13 +11,11 @@ mod plain;
 mod random;
 mod table;
 
-#[cfg(feature = "report")]
 mod report;
 
 fn main() {
     table::heading();
     elimination::time();
     outputs::time();
-    #[cfg(feature = "report")]
     report::time();
 }

@@ -1,9 +1,8 @@
 /* Reads one description from standard input; prints its fields, its first outputs with their values, and the
  * lines of its listing.
  *
- *     gcc -Wall -Wextra -Iinclude -DDAYUNGLIPO_COMPLETE host/c/example.c dist/libdayunglipo.a -o example
- *
- * Without DAYUNGLIPO_COMPLETE the report is left out. */
+ *     gcc -Wall -Wextra -Iinclude host/c/example.c dist/libdayunglipo.a -o example
+ */
 #include "dayunglipo.h"
 
 #include <inttypes.h>
@@ -42,7 +41,6 @@ static uint32_t print_outputs(dayunglipo_fields g)
     return refusal;
 }
 
-#ifdef DAYUNGLIPO_COMPLETE
 /* The most that any generator can reach, what this one reaches, and the gap. */
 static void print_line(char name, size_t number, size_t best, uint32_t found)
 {
@@ -64,7 +62,6 @@ static uint32_t print_report(dayunglipo_fields g)
     printf("ME %s\n", report.me ? "yes" : "no");
     return 0;
 }
-#endif
 
 int main(void)
 {
@@ -78,10 +75,8 @@ int main(void)
         printf("k %zu L %u\n", state_bits(reading.fields), (unsigned)reading.fields.bits);
         refusal = print_outputs(reading.fields);
     }
-#ifdef DAYUNGLIPO_COMPLETE
     if (refusal == 0)
         refusal = print_report(reading.fields);
-#endif
     if (refusal != 0)
         printf("refused %" PRIu32 "\n", refusal);
     return refusal != 0;

@@ -92,10 +92,9 @@ def load(path=None):
     library = ctypes.CDLL(str(path or folder / "libdayunglipo.so"))
     functions = {}
     for name, (result, arguments) in FUNCTIONS.items():
-        function = getattr(library, "dayunglipo_" + name, None)
-        if function is not None:
-            function.restype, function.argtypes = result, arguments
-            functions[name] = function
+        function = getattr(library, "dayunglipo_" + name)
+        function.restype, function.argtypes = result, arguments
+        functions[name] = function
     return functions
 
 
@@ -104,10 +103,6 @@ class Dayunglipo:
 
     def __init__(self, path=None):
         self.functions = load(path)
-
-    def has(self, name):
-        """Whether the library has this call."""
-        return name in self.functions
 
     def read(self, data):
         """The fields of a description."""
@@ -236,10 +231,8 @@ def main(arguments):
         print_fields(fields)
         print(f"k {state_bits(fields)} L {fields.bits}")
         print_outputs(library, fields)
-        if library.has("question"):
-            print_questions(library, fields)
-        if library.has("report"):
-            print_report(library, fields)
+        print_questions(library, fields)
+        print_report(library, fields)
     except Refused as refusal:
         print(refusal)
         return 1

@@ -4,9 +4,7 @@ pub mod bits;
 pub mod elimination;
 pub mod words;
 
-#[cfg(feature = "report")]
 pub mod report;
-#[cfg(feature = "report")]
 pub mod rows;
 
 use dayunglipo::Fields;

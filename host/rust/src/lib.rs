@@ -13,23 +13,15 @@ mod calls;
 mod raw;
 mod types;
 
-#[cfg(feature = "basis")]
 mod basis;
-#[cfg(feature = "listing")]
 mod listing;
-#[cfg(feature = "question")]
 mod question;
-#[cfg(feature = "report")]
 mod report;
 
 pub use calls::{outputs, read, value, write};
 pub use types::*;
 
-#[cfg(feature = "basis")]
 pub use basis::{basis, basis_check, Basis};
-#[cfg(feature = "listing")]
 pub use listing::{listing, TEXT_BYTES};
-#[cfg(feature = "question")]
 pub use question::{question, Reply};
-#[cfg(feature = "report")]
 pub use report::{report, Report};

@@ -8,10 +8,6 @@ extern "C" {
     pub fn dayunglipo_outputs(g: Fields, t: usize, state: Words, out: *mut u32, room: usize)
         -> u32;
     pub fn dayunglipo_value(y: u64, l: u32) -> Valued;
-}
-
-#[cfg(feature = "question")]
-extern "C" {
     pub fn dayunglipo_question(
         g: Fields,
         t: usize,
@@ -19,10 +15,6 @@ extern "C" {
         work: *mut u64,
         room: usize,
     ) -> crate::Reply;
-}
-
-#[cfg(feature = "basis")]
-extern "C" {
     pub fn dayunglipo_basis_check(g: Fields, t: usize, l: usize, room: usize) -> u32;
     pub fn dayunglipo_basis(
         g: Fields,
@@ -31,15 +23,7 @@ extern "C" {
         work: *mut u64,
         room: usize,
     ) -> crate::basis::BasisReply;
-}
-
-#[cfg(feature = "report")]
-extern "C" {
     pub fn dayunglipo_report(g: Fields, work: *mut u64, room: usize) -> crate::Report;
-}
-
-#[cfg(feature = "listing")]
-extern "C" {
     pub fn dayunglipo_listing(
         bytes: *const u8,
         length: usize,

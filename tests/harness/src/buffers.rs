@@ -40,7 +40,6 @@ fn work_rooms(tally: &mut Tally, trial: &Trial) {
         trial.cell_calls(tally);
         trial.report_calls(tally);
     }
-    #[cfg(feature = "listing")]
     for text_room in [0, 1, dayunglipo::TEXT_BYTES - 1, dayunglipo::TEXT_BYTES] {
         compare::listing(tally, &bytes_of(&trial.fields), WORK_WORDS, text_room);
     }
@@ -51,7 +50,6 @@ fn lengths(tally: &mut Tally, bytes: &[u8]) {
     let longer: Vec<u8> = bytes.iter().chain(&[0; 10]).copied().collect();
     for length in 0..=longer.len() {
         compare::reading(tally, &longer[..length]);
-        #[cfg(feature = "listing")]
         if length != bytes.len() {
             compare::listing(tally, &longer[..length], WORK_WORDS, dayunglipo::TEXT_BYTES);
         }

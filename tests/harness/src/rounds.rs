@@ -13,7 +13,6 @@ pub fn check(tally: &mut Tally, random: &mut Random, rounds: u64) {
         let trial = trial(random);
         let bytes = damaged_bytes(random, &trial.fields);
         compare::reading(tally, &bytes);
-        #[cfg(feature = "listing")]
         if round % 64 == 1 {
             compare::listing(tally, &bytes, WORK_WORDS, dayunglipo::TEXT_BYTES);
         }

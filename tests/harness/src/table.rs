@@ -6,13 +6,9 @@ use crate::tally::Tally;
 use crate::trial::Trial;
 use dayunglipo::Fields;
 
-#[cfg(feature = "question")]
 mod questions;
-#[cfg(feature = "basis")]
 mod rows;
-#[cfg(feature = "report")]
 mod sums;
-#[cfg(feature = "listing")]
 mod text;
 
 /// Gν: x_n = x_(n−3) + x_(n−4), k = 4, L = 4.
@@ -43,13 +39,9 @@ pub fn check(tally: &mut Tally) {
     let half = dayunglipo::value(1, 1);
     tally.same("value", &(half.refusal, half.value), &(0, 0.5), || "case 12".into());
     limits(tally);
-    #[cfg(feature = "question")]
     questions::check(tally);
-    #[cfg(feature = "basis")]
     rows::check(tally);
-    #[cfg(feature = "report")]
     sums::check(tally);
-    #[cfg(feature = "listing")]
     text::check(tally);
 }
 

@@ -3,16 +3,16 @@
 use std::fmt::Debug;
 
 /// The calls, and the refusal numbers that each can give.
-const CALLS: [(&str, bool, &[u32]); 9] = [
-    ("read", true, &[0, 1, 2, 3, 4, 5, 6]),
-    ("write", true, &[0, 1, 3, 4, 5, 6, 11]),
-    ("outputs", true, &[0, 1, 3, 4, 5, 6, 7, 9, 11]),
-    ("value", true, &[0, 4, 6]),
-    ("question", cfg!(feature = "question"), &[0, 1, 3, 4, 5, 6, 7, 8, 11]),
-    ("basis check", cfg!(feature = "basis"), &[0, 1, 3, 4, 5, 6, 7, 8, 10, 11]),
-    ("basis", cfg!(feature = "basis"), &[0, 1, 3, 4, 5, 6, 7, 8, 10, 11]),
-    ("report", cfg!(feature = "report"), &[0, 1, 3, 4, 5, 6, 11]),
-    ("listing", cfg!(feature = "listing"), &[0, 1, 2, 3, 4, 5, 6, 11]),
+const CALLS: [(&str, &[u32]); 9] = [
+    ("read", &[0, 1, 2, 3, 4, 5, 6]),
+    ("write", &[0, 1, 3, 4, 5, 6, 11]),
+    ("outputs", &[0, 1, 3, 4, 5, 6, 7, 9, 11]),
+    ("value", &[0, 4, 6]),
+    ("question", &[0, 1, 3, 4, 5, 6, 7, 8, 11]),
+    ("basis check", &[0, 1, 3, 4, 5, 6, 7, 8, 10, 11]),
+    ("basis", &[0, 1, 3, 4, 5, 6, 7, 8, 10, 11]),
+    ("report", &[0, 1, 3, 4, 5, 6, 11]),
+    ("listing", &[0, 1, 2, 3, 4, 5, 6, 11]),
 ];
 
 /// After so many mismatches the rest is not looked at.
@@ -42,7 +42,7 @@ impl Tally {
 
     /// Counts one call that the second program answers with this number.
     pub fn count(&mut self, call: &str, refusal: u32) {
-        let known = CALLS.iter().position(|(name, _, _)| *name == call);
+        let known = CALLS.iter().position(|(name, _)| *name == call);
         match known.and_then(|i| self.counts[i].get_mut(refusal as usize)) {
             Some(count) => *count += 1,
             None => self.mismatch(call, &format!("unknown call or refusal {refusal}")),
@@ -75,11 +75,7 @@ impl Tally {
     /// Prints the counts; whether all is as it should be.
     pub fn passed(&mut self) -> bool {
         println!("calls by refusal number:");
-        for (i, (call, linked, numbers)) in CALLS.iter().enumerate() {
-            if !linked {
-                println!("  {call:<12} not linked");
-                continue;
-            }
+        for (i, (call, numbers)) in CALLS.iter().enumerate() {
             let total: u64 = self.counts[i].iter().sum();
             let shown = numbers.iter().map(|n| format!(" {n}:{}", self.counts[i][*n as usize]));
             println!("  {call:<12} {total:>8} {}", shown.collect::<String>());

@@ -62,25 +62,18 @@ impl Trial {
         compare::reading(tally, &bytes_of(&self.fields));
         compare::writing(tally, self);
         compare::outputs(tally, self);
-        #[cfg(feature = "basis")]
         compare::basis_check(tally, self);
     }
 
-    /// Questions and bases, where they are linked.
+    /// Questions and bases.
     pub fn cell_calls(&self, tally: &mut Tally) {
-        let _ = &tally;
-        #[cfg(feature = "question")]
         compare::question(tally, self);
-        #[cfg(feature = "basis")]
         compare::basis(tally, self);
     }
 
-    /// The report and its text, where they are linked.
+    /// The report and its text.
     pub fn report_calls(&self, tally: &mut Tally) {
-        let _ = &tally;
-        #[cfg(feature = "report")]
         compare::report(tally, self);
-        #[cfg(feature = "listing")]
         compare::listing(
             tally,
             &bytes_of(&self.fields),

@@ -4,21 +4,13 @@
 mod calls;
 pub use calls::{outputs, reading, value, writing};
 
-#[cfg(feature = "basis")]
 mod basis;
-#[cfg(feature = "basis")]
 pub use basis::{basis, basis_check};
-#[cfg(feature = "listing")]
 mod listing;
-#[cfg(feature = "listing")]
 pub use listing::listing;
-#[cfg(feature = "question")]
 mod question;
-#[cfg(feature = "question")]
 pub use question::question;
-#[cfg(feature = "report")]
 mod report;
-#[cfg(feature = "report")]
 pub use report::report;
 
 use crate::lent::{Element, Lent};
