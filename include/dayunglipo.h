@@ -39,7 +39,7 @@ extern "C" {
 #define DAYUNGLIPO_ROW_WORDS 8           /* words of a set, a row or a start state */
 #define DAYUNGLIPO_WORK_WORDS 7696       /* the least work buffer, in words of 64 bits */
 #define DAYUNGLIPO_LONGEST_DESCRIPTION 65
-#define DAYUNGLIPO_TEXT_BYTES 8192       /* the least text buffer of a listing */
+#define DAYUNGLIPO_TEXT_BYTES 16480      /* the least text buffer of a listing */
 
 /* The kind and the body's fields of a description; those of other kinds are zero. */
 typedef struct {
@@ -133,10 +133,9 @@ dayunglipo_basis_reply dayunglipo_basis(dayunglipo_fields g, size_t t, size_t l,
 dayunglipo_report_reply dayunglipo_report(dayunglipo_fields g, uint64_t *work, size_t room);
 
 /* Puts the text of the report of a description at the front of `text`, or the line `refused N`, and leaves the rest; gives the
- * text's length. Lent: `length` bytes, only read; `work_room` words, at least DAYUNGLIPO_WORK_WORDS; `text_room` bytes, at least
- * DAYUNGLIPO_TEXT_BYTES. Where a buffer is too short it gives 0, and both are as they were. A report leaves the first
- * DAYUNGLIPO_WORK_WORDS words of `work` zero; a refused description leaves `work` as it was. */
-size_t dayunglipo_listing(const uint8_t *bytes, size_t length, uint64_t *work, size_t work_room, uint8_t *text, size_t text_room);
+ * text's length. Lent: `length` bytes, only read; `room` bytes, at least DAYUNGLIPO_TEXT_BYTES. Where the buffer is too short it
+ * gives 0 and leaves it as it was. Its work buffer is its own, on the stack. */
+size_t dayunglipo_listing(const uint8_t *bytes, size_t length, uint8_t *text, size_t room);
 
 #ifdef __cplusplus
 }

@@ -18,7 +18,7 @@ MOST_BITS = 480
 MOST_OUTPUT = 32
 ROW_WORDS = 8
 WORK_WORDS = 7696
-TEXT_BYTES = 8192
+TEXT_BYTES = 16480
 LONGEST_DESCRIPTION = 65
 
 
@@ -81,7 +81,7 @@ FUNCTIONS = {
     "basis_check": (c_uint32, [Fields, c_size_t, c_size_t, c_size_t]),
     "basis": (BasisReply, [Fields, c_size_t, c_size_t, WORK, c_size_t]),
     "report": (ReportReply, [Fields, WORK, c_size_t]),
-    "listing": (c_size_t, [BYTES, c_size_t, WORK, c_size_t, BYTES, c_size_t]),
+    "listing": (c_size_t, [BYTES, c_size_t, BYTES, c_size_t]),
 }
 
 
@@ -147,7 +147,7 @@ class Dayunglipo:
     def listing(self, data):
         """The listing's text."""
         lent, text = (c_uint8 * len(data)).from_buffer_copy(data), (c_uint8 * TEXT_BYTES)()
-        length = self.functions["listing"](lent, len(data), work(), WORK_WORDS, text, TEXT_BYTES)
+        length = self.functions["listing"](lent, len(data), text, TEXT_BYTES)
         return bytes(text[:length]).decode("ascii")
 
 

@@ -27,9 +27,7 @@ extern "C" {
     pub fn dayunglipo_listing(
         bytes: *const u8,
         length: usize,
-        work: *mut u64,
-        work_room: usize,
         text: *mut u8,
-        text_room: usize,
+        room: usize,
     ) -> usize;
 }

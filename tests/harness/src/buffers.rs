@@ -41,7 +41,7 @@ fn work_rooms(tally: &mut Tally, trial: &Trial) {
         trial.report_calls(tally);
     }
     for text_room in [0, 1, dayunglipo::TEXT_BYTES - 1, dayunglipo::TEXT_BYTES] {
-        compare::listing(tally, &bytes_of(&trial.fields), WORK_WORDS, text_room);
+        compare::listing(tally, &bytes_of(&trial.fields), text_room);
     }
 }
 
@@ -51,7 +51,7 @@ fn lengths(tally: &mut Tally, bytes: &[u8]) {
     for length in 0..=longer.len() {
         compare::reading(tally, &longer[..length]);
         if length != bytes.len() {
-            compare::listing(tally, &longer[..length], WORK_WORDS, dayunglipo::TEXT_BYTES);
+            compare::listing(tally, &longer[..length], dayunglipo::TEXT_BYTES);
         }
     }
 }

@@ -14,7 +14,7 @@ pub fn check(tally: &mut Tally, random: &mut Random, rounds: u64) {
         let bytes = damaged_bytes(random, &trial.fields);
         compare::reading(tally, &bytes);
         if round % 64 == 1 {
-            compare::listing(tally, &bytes, WORK_WORDS, dayunglipo::TEXT_BYTES);
+            compare::listing(tally, &bytes, dayunglipo::TEXT_BYTES);
         }
         trial.cheap_calls(tally);
         // What is refused costs little; of what is accepted the second program takes long.

@@ -74,12 +74,7 @@ impl Trial {
     /// The report and its text.
     pub fn report_calls(&self, tally: &mut Tally) {
         compare::report(tally, self);
-        compare::listing(
-            tally,
-            &bytes_of(&self.fields),
-            self.work_room,
-            dayunglipo::TEXT_BYTES + 8,
-        );
+        compare::listing(tally, &bytes_of(&self.fields), dayunglipo::TEXT_BYTES + 8);
     }
 
     /// Every call.
