@@ -14,14 +14,15 @@ use borrow.Author.Tests.{lt-ltb, le-ltb}
 use Rattle.theory.specs.Def.{_⊕_, xorsum, pair}
 use Rattle.theory.specs.Laws.{⊕-same}
 use Rattle.theory.specs.Sums.{pair-same, pair-cut}
-use Rattle.digits.specs.Def.{Word, Same, Clear, digit, bitsOf, numberOf}
+use Rattle.digits.specs.Def.{Word, Same, Clear, digit, bitsOf, wordOf, numberOf}
 use Rattle.kinds.specs.Generator.{nextBit, stepped, times}
 use Rattle.kinds.specs.Reads.{same-stepped}
 use Rattle.kinds.specs.Transpose.{down, taps}
 use Rattle.kinds.specs.Adjoint.{taps-sum}
-use Rattle.states.specs.Post.{Flipped, stateBits}
+use Rattle.kinds.specs.Recurrence.{bits-start}
+use Rattle.states.specs.Post.{Flipped, Holds, stateBits}
 use Rattle.running.specs.Prepared.{Mask, Stepped, tapped}
-use Rattle.running.proofs.Numbers.{bit-number, number-lt}
+use Rattle.running.proofs.Numbers.{bit-number, number-lt, mirrored-number}
 
 -- the taps of the coefficients of a mask are its bits
 pub tapped-below : (k : ℕ) (mask : Word) → Same k mask (taps k (tapped k mask))
@@ -110,3 +111,10 @@ put-more k mask s t u r j p x y = record {
 
 pub put-small : (k : ℕ) (mask s t : List ℕ) (r j n : ℕ) → j ≤ n → Put k mask s t r j → r < 2 ^ n
 put-small k mask s t r j n h x = rw (x .number) (lt-of-lt-of-le (number-lt j (outOf k mask s)) (pow-mono h))
+
+-- ---- the first L bits of the state are the output where there are so many
+
+pub first-is : (k : ℕ) (a : Word) (n x r : ℕ) (ws : List ℕ) → n ≤ k → Holds n (λ j. bitsOf ws (0 + j)) x → Holds n (wordOf n x) r
+    → r ≡ numberOf n (λ j. times j (stepped k a) (bitsOf ws) 0)
+first-is k a n x r ws l h e =
+    mirrored-number n x r _ e (λ j b. let z : 0 + j ≡ j = omega arith in h .bits j b ∙ ap (bitsOf ws) z ∙ sym (bits-start k a (bitsOf ws) j (omega arith)))

@@ -1,5 +1,6 @@
 // Kind 1. The state is x_n, .., x_(n+k-1), and the mask has the taps: the bits that x_(n+k) sums, and the bit k.
 ghost use mathlib.Core.Path.{_≡_};
+ghost use Prim.Native.Nat.{_≤_};
 ghost use Rattle.digits.specs.Def.{Same, bitsOf, numberOf};
 ghost use Rattle.running.specs.Prepared.{Ready1, Mask, Stepped, machine1};
 use crate::Prepared;
@@ -34,8 +35,18 @@ pub fn moved(p: Prepared, s: [u64; ROW_WORDS]) -> [u64; ROW_WORDS]
     r
 }
 
-// The output: the first bit of each of L states in a row.
-pub fn output(p: Prepared, s: [u64; ROW_WORDS]) -> u32
+// The output where the state has its bits: the first L of them.
+fn first_bits(p: Prepared, s: [u64; ROW_WORDS]) -> u32
+    requires { ⌜ Ready1 p × (1 ≤ p .bits) × (p .bits ≤ p .k) ⌝ }
+    ensures { λ r. ⌜ r ≡ numberOf (p .bits) (machine1 p .out (bitsOf s)) ⌝ }
+{
+    let bits = p.bits;
+    let x = states::word_at(s, 0, bits);
+    states::words::mirrored(x, bits) as u32
+}
+
+// The output where the recurrence goes on: the first bit of each of L states in a row.
+fn stepped_bits(p: Prepared, s: [u64; ROW_WORDS]) -> u32
     requires { ⌜ Ready1 p ⌝ }
     ensures { λ r. ⌜ r ≡ numberOf (p .bits) (machine1 p .out (bitsOf s)) ⌝ }
 {
@@ -49,4 +60,20 @@ pub fn output(p: Prepared, s: [u64; ROW_WORDS]) -> u32
         t = stepped(k, mask, t);
     }
     r as u32
+}
+
+// The output: L bits from x_n on.
+pub fn output(p: Prepared, s: [u64; ROW_WORDS]) -> u32
+    requires { ⌜ Ready1 p ⌝ }
+    ensures { λ r. ⌜ r ≡ numberOf (p .bits) (machine1 p .out (bitsOf s)) ⌝ }
+{
+    let k = p.k;
+    let bits = p.bits;
+    if k < bits {
+        return stepped_bits(p, s);
+    }
+    if bits < 1 {
+        return stepped_bits(p, s);
+    }
+    first_bits(p, s)
 }

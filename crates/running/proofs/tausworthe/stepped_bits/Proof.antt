@@ -4,10 +4,10 @@ use mathlib.Core.Path.{_≡_}
 use Prim.Native.Nat.{_≤_, _-_}
 use native.Mathlib.Omega.{arith}
 use borrow.Author.Needs.{needs}
-use Rattle.running.proofs.tausworthe.output.Statement.{statement}
-use Rattle.running.proofs.tausworthe.output.Tie as tie
-use Rattle.running.proofs.tausworthe.output.Reads as reads
-use Rattle.running.proofs.tausworthe.output.Lts as lts
+use Rattle.running.proofs.tausworthe.stepped_bits.Statement.{statement}
+use Rattle.running.proofs.tausworthe.stepped_bits.Tie as tie
+use Rattle.running.proofs.tausworthe.stepped_bits.Reads as reads
+use Rattle.running.proofs.tausworthe.stepped_bits.Lts as lts
 use Rattle.running.proofs.tausworthe.stepped.Reads as stepped-reads
 
 abbrev Inv-loop : tie.InvT-loop
@@ -59,8 +59,8 @@ returns : tie.Need-returns Inv-loop μ-loop
 unfolding tausworthe
 returns c = let e : c .before .loop .j ≡ c .before .before .before .args .p .bits = omega arith in (rw e at (c .before .loop .inv .1)) .number
 
-pub output-spec : {M : Type 1} → statement M
-output-spec =
+pub stepped-bits-spec : {M : Type 1} → statement M
+stepped-bits-spec =
     tie.close
     (tie.spec
     Inv-loop
