@@ -1,25 +1,20 @@
 -- Numbers in bytes, and the bytes of each kind.
 use mathlib.Core.Path.{_≡_, refl, sym, ap, ap₂, _∙_}
 use mathlib.Core.Bool.{Bool, true, false, not, _||_}
-use mathlib.Core.List.{List, [], _∷_, _++_}
-use Prim.Native.Nat.{ℕ, zero, suc, _+_, _-_, _*_, _/_, _%_, _^_, _≤_, _<_, min}
+use mathlib.Core.List.{List, [], _++_}
+use Prim.Native.Nat.{ℕ, _+_, _-_, _*_, _≤_, _<_, min}
 use mathlib.Core.Logic.{by-cases}
 use native.Mathlib.Decide.{decLt}
 use native.Mathlib.Omega.{arith}
-use lib.ListN.{length, getD, take, drop, set, length-set, length-take, length-drop}
+use lib.ListN.{length, getD, take, drop, set, length-take, length-drop}
 use lib.Seq.{take-all, ext-getD, getD-take, getD-drop, getD-set-same, getD-set-other}
 use Rattle.document.specs.declared.Fields.{Fields}
-use Rattle.document.specs.Generator.{byKind}
-use Rattle.document.specs.Description.{bytes, number, description}
-use Rattle.document.specs.Description.{lengthOf}
-use Rattle.document.specs.Refusals.{fieldCases, writeRefusal}
-use Rattle.document.specs.Lowest.{after, field-rises}
+use Rattle.document.specs.Description.{bytes, number, description, lengthOf, fieldsOf}
+use Rattle.document.specs.Refusals.{fieldCases, writeRefusal, outside, readRefusal, rangeRefusal}
+use Rattle.document.specs.Lowest.{after, field-rises, gives, skips}
 use Rattle.document.specs.Ranges.{Accepted, accepted, passed}
 use borrow.Author.Tests.{ltb-false, eq-eqb, ne-eqb}
 use lib.Dec.{eqb}
-use Rattle.document.specs.Description.{fieldsOf, noFields}
-use Rattle.document.specs.Refusals.{outside, readRefusal, rangeRefusal}
-use Rattle.document.specs.Lowest.{gives, skips}
 use Rattle.description.specs.declared.reading.Reading.{Reading}
 use Rattle.description.specs.Promises.{refusedWith, ReadAs}
 

@@ -2,7 +2,7 @@
 use mathlib.Core.Path.{_≡_, refl, sym, ap, _∙_}
 use mathlib.Core.List.{List}
 use mathlib.Core.Logic.{by-cases}
-use Prim.Native.Nat.{ℕ, suc, _+_, _*_, _≤_, _<_}
+use Prim.Native.Nat.{ℕ, _+_, _*_, _≤_, _<_}
 use native.Mathlib.Decide.{decLt}
 use native.Mathlib.Omega.{arith}
 use lib.ListN.{length, getD, set, length-set}
@@ -20,9 +20,12 @@ use Rattle.document.specs.Limits.{rowWords}
 use Rattle.document.specs.Generator.{size}
 use Rattle.document.specs.Refusals.{outside, any, lowest, fieldCases, fieldRefusal, outputsRefusal}
 use Rattle.document.specs.Lowest.{first-of, then-of, field-rises}
-use Rattle.document.specs.Ranges.{passed}
+use Rattle.document.specs.Ranges.{Accepted, passed}
 use Rattle.outputs.specs.Promises.{runCases, RanAs}
-use Rattle.running.specs.Theorems.{After, after-none, after-more, after-output}
+use Rattle.document.specs.Theorems.{ranges}
+use Rattle.running.specs.declared.Prepared.{Prepared}
+use Rattle.running.specs.Prepared.{PreparedFor, machineOf}
+use Rattle.running.specs.Theorems.{After, after-none, after-more, after-output, prepared-size, prepared-output}
 
 -- one more number at the front
 pub front-more : (n v : ℕ) (f : ℕ → ℕ) (was now : List ℕ) → Front n f was now → n < length now → v ≡ f n → Front (n + 1) f was (set now n v)
@@ -75,3 +78,23 @@ room-is k t state room r e z =
 
 pub front-cong : (n : ℕ) (f g : ℕ → ℕ) (was now : List ℕ) → ((i : ℕ) → f i ≡ g i) → Front n f was now → Front n g was now
 front-cong n f g was now e x = record { long = x .long; front = λ i h. x .front i h ∙ e i; rest = x .rest }
+
+-- the whole call, from what each part of it ensures
+module _ (g : Fields) (p : Prepared) (t : ℕ) (state was : List ℕ) (f r : ℕ) (e : f ≡ fieldRefusal g) (z : f ≡ 0) (q : PreparedFor g p)
+    (h : r ≡ lowest (runCases (p .k) t state (length was))) where
+  accepted-fields : Accepted g
+  accepted-fields = ranges g (sym e ∙ z)
+
+  number : r ≡ outputsRefusal g t state (length was)
+  number = refusal-is g (p .k) t state (length was) r (sym e ∙ z) (prepared-size g p accepted-fields q) h
+
+  pub ran-as : (now : List ℕ) → r ≡ 0 → Front t (λ n. output (machineOf p) n (bitsOf state)) was now → RanAs g t state was r now
+  ran-as now o x =
+      record {
+        number = number;
+        front = λ _. front-cong t _ _ was now (λ n. prepared-output g p accepted-fields q n (bitsOf state)) x;
+        kept = λ n. absurd (n o);
+      }
+
+  pub stopped-as : (r ≡ 0 → ⊥) → RanAs g t state was r was
+  stopped-as n = record { number = number; front = λ o. absurd (n o); kept = λ _. refl }

@@ -1,15 +1,15 @@
 -- The bits of y / 2 ^ l, h being the index of y's highest set bit. Assumes nothing.
-use mathlib.Core.Path.{_≡_, refl, sym, ap, _∙_, subst}
-use mathlib.Core.Bool.{Bool, true, false, cond}
-use Prim.Native.Nat.{ℕ, zero, suc, _+_, _-_, _*_, _/_, _%_, _^_, _≤_, _<_}
-use native.Mathlib.Nat.{mul-pos, mod-eq-of-lt, lt-of-lt-of-le, mul-lt-mul-of-pos-right, pow-suc}
+use mathlib.Core.Path.{_≡_, sym, ap, _∙_, subst}
+use mathlib.Core.Bool.{Bool, false, cond}
+use Prim.Native.Nat.{ℕ, suc, _+_, _-_, _*_, _/_, _%_, _^_, _≤_, _<_}
+use native.Mathlib.Nat.{mod-eq-of-lt, mul-lt-mul-of-pos-right, pow-suc}
 use native.Mathlib.Numerals.{add-one}
 use native.Mathlib.Decide.{decLe}
 use native.Mathlib.Omega.{arith}
 use borrow.Author.Tests.{ne-eqb, lt-leb}
 use lib.Dec.{eqb, leb}
 use lib.Pow.{pow-add, pow-pos, pow-mono, high, low}
-use lib.Ieee.{Float, nan, inf, Format, binary64, odd, ofFields, ofBits}
+use lib.Ieee.{Float, nan, inf, binary64, odd, ofFields, ofBits}
 use lib.Ieee.Exact.{HasValue, odd-sign}
 use Rattle.document.specs.Value.{fields64}
 use Rattle.value.specs.Exact.{rescale}

@@ -1,8 +1,8 @@
 -- The float with document 01's bits is exactly Y / 2^L, and two answers that the promise allows are one.
-use mathlib.Core.Path.{_≡_, refl, sym, ap, _∙_}
-use mathlib.Core.Bool.{Bool, true, false, not, cond}
+use mathlib.Core.Path.{_≡_, refl, sym, _∙_}
+use mathlib.Core.Bool.{true, false, not}
 use mathlib.Core.Logic.{by-cases}
-use Prim.Native.Nat.{ℕ, zero, suc, _+_, _*_, _^_, _≤_, _<_}
+use Prim.Native.Nat.{ℕ, zero, _^_, _≤_, _<_}
 use native.Mathlib.Decide.{decLt, ℕ-discrete}
 use native.Mathlib.Nat.{zero-mul}
 use native.Mathlib.Omega.{arith}
@@ -11,11 +11,10 @@ use lib.Ieee.{binary64, ofBits}
 use lib.Ieee.Exact.{HasValue}
 use borrow.Author.Tests.{eq-eqb, ne-eqb, ltb-true, not-false}
 use lib.Dec.{ltb}
-use Rattle.document.specs.Refusals.{outside}
+use Rattle.document.specs.Refusals.{outside, valueRefusal}
 use Rattle.document.specs.Ranges.{passed, inside}
 use Rattle.document.specs.Limits.{mostOutput}
-use Rattle.document.specs.Refusals.{valueRefusal}
-use Rattle.document.specs.Value.{highest, fields64, valueBits}
+use Rattle.document.specs.Value.{highest, valueBits}
 use Rattle.document.specs.Largest.{highest-is}
 use Rattle.value.specs.declared.Valued.{Valued}
 use Rattle.value.specs.Promises.{ValuedAs}

@@ -1,14 +1,9 @@
-use mathlib.Core.Path.{_≡_, refl, sym, ap, _∙_}
-use Prim.Native.Nat.{ℕ, zero, suc, _+_, _*_, _≤_, _<_, _-_}
-use native.Mathlib.Omega.{arith}
-use lib.ListN.{length, getD, set, length-set}
+use mathlib.Core.Path.{_≡_}
+use Prim.Native.Nat.{_≤_, _-_}
+use lib.ListN.{length}
 use borrow.Author.Needs.{needs}
 use Rattle.asked.proofs.main.Statement.{statement}
 use Rattle.asked.proofs.main.Tie as tie
-use Rattle.asked.proofs.main.Reads as reads
-use Rattle.asked.proofs.main.Lts as lts
-use Rattle.asked.proofs.show.Reads as show-reads
-use Rattle.io.proofs.read_full.Reads as read-full-reads
 
 abbrev Inv-loop : tie.InvT-loop
 Inv-loop entry₀ work₀ counter₀ entry work counter = (counter ≤ 64) × (length entry ≡ 67) × (length work ≡ 7696)
@@ -16,47 +11,36 @@ Inv-loop entry₀ work₀ counter₀ entry work counter = (counter ≤ 64) × (l
 abbrev μ-loop : tie.MeasureT-loop
 μ-loop entry₀ work₀ counter₀ entry work counter = 64 - counter
 
--- src/main.rt:21:5
 loop-holds : tie.Need-loop-holds Inv-loop μ-loop
 loop-holds c = search needs
 
--- src/main.rt:22:34
 slice-aggregate-read-full : tie.Need-slice-aggregate-read-full Inv-loop μ-loop
 slice-aggregate-read-full c = search needs
 
--- src/main.rt:22:13
 read-full-requires : tie.Need-read-full-requires Inv-loop μ-loop
 read-full-requires c κs = search needs
 
--- src/main.rt:24:13
 returns : tie.Need-returns Inv-loop μ-loop
 returns c = search needs
 
--- src/main.rt:26:14
 slice-aggregate-show : tie.Need-slice-aggregate-show Inv-loop μ-loop
 slice-aggregate-show c = search needs
 
--- src/main.rt:26:22
 slice-aggregate-show-2 : tie.Need-slice-aggregate-show-2 Inv-loop μ-loop
 slice-aggregate-show-2 c = search needs
 
--- src/main.rt:26:9
 show-requires : tie.Need-show-requires Inv-loop μ-loop
 show-requires c κs = search needs
 
--- src/main.rt:21:9
 add-counter : tie.Need-add-counter Inv-loop μ-loop
 add-counter c = search needs
 
--- src/main.rt:21:5
 loop-less : tie.Need-loop-less Inv-loop μ-loop
 loop-less c = search needs
 
--- src/main.rt:21:5
 loop-again : tie.Need-loop-again Inv-loop μ-loop
 loop-again c = search needs
 
--- src/main.rt:18:1
 returns-2 : tie.Need-returns-2 Inv-loop μ-loop
 returns-2 c = search needs
 

@@ -1,21 +1,15 @@
 use mathlib.Core.Bool.{not, false, _&&_}
 use lib.Dec.{ltb}
-use borrow.Author.Tests.{lt-ltb, le-ltb}
 use Rattle.digits.specs.Def.{bitsOf}
-use Rattle.digits.specs.Parity.{digit-test}
 use Rattle.document.specs.Limits.{rowWords}
 use Rattle.document.specs.Refusals.{any}
 use Rattle.document.specs.Ranges.{any-next, any-found}
-use mathlib.Core.Path.{_≡_, refl, sym, ap, _∙_}
-use Prim.Native.Nat.{ℕ, zero, suc, _+_, _*_, _≤_, _<_, _-_}
+use mathlib.Core.Path.{_≡_, refl, sym, _∙_}
+use Prim.Native.Nat.{_*_, _≤_, _-_}
 use native.Mathlib.Omega.{arith}
-use lib.ListN.{length, getD, set, length-set}
 use borrow.Author.Needs.{needs}
 use Rattle.outputs.proofs.bit_past.Statement.{statement}
 use Rattle.outputs.proofs.bit_past.Tie as tie
-use Rattle.outputs.proofs.bit_past.Reads as reads
-use Rattle.outputs.proofs.bit_past.Lts as lts
-use Rattle.outputs.proofs.late_bit.Reads as late-bit-reads
 
 abbrev Inv-loop : tie.InvT-loop
 Inv-loop state k i₀ i = (i ≤ 64 * rowWords) × (any i (λ i. not (ltb i k) && bitsOf state i) ≡ false)
@@ -23,32 +17,25 @@ Inv-loop state k i₀ i = (i ≤ 64 * rowWords) × (any i (λ i. not (ltb i k) &
 abbrev μ-loop : tie.MeasureT-loop
 μ-loop state k i₀ i = 64 * rowWords - i
 
--- src/lib.rt:37:5
 loop-holds : tie.Need-loop-holds Inv-loop μ-loop
 unfolding any
 loop-holds c = (omega arith, refl)
 
--- src/lib.rt:38:12
 late-bit-requires : tie.Need-late-bit-requires Inv-loop μ-loop
 late-bit-requires c κs = search needs
 
--- src/lib.rt:39:13
 returns : tie.Need-returns Inv-loop μ-loop
 returns c = sym (any-found (64 * rowWords) _ (c .before .before .before .loop .i) (search needs) (sym (c .before .late-bit .ensures) ∙ c .if1 .taken))
 
--- src/lib.rt:37:9
 add-i : tie.Need-add-i Inv-loop μ-loop
 add-i c = search needs
 
--- src/lib.rt:37:5
 loop-less : tie.Need-loop-less Inv-loop μ-loop
 loop-less c = search needs
 
--- src/lib.rt:37:5
 loop-again : tie.Need-loop-again Inv-loop μ-loop
 loop-again c = (omega arith, any-next (c .before .before .before .loop .i) _ (c .before .before .before .loop .inv .1) (sym (c .before .late-bit .ensures) ∙ c .if1 .left))
 
--- src/lib.rt:34:1
 returns-2 : tie.Need-returns-2 Inv-loop μ-loop
 returns-2 c = let e : c .before .loop .i ≡ 64 * rowWords = omega arith in sym (rw e at (c .before .loop .inv .1))
 

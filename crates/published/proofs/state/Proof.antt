@@ -1,13 +1,9 @@
-use mathlib.Core.Path.{_≡_, refl, sym, ap, _∙_}
-use Prim.Native.Nat.{ℕ, zero, suc, _+_, _*_, _≤_, _<_, _-_}
-use native.Mathlib.Omega.{arith}
-use lib.ListN.{length, getD, set, length-set}
+use mathlib.Core.Path.{_≡_}
+use Prim.Native.Nat.{_≤_, _-_}
+use lib.ListN.{length}
 use borrow.Author.Needs.{needs}
 use Rattle.published.proofs.state.Statement.{statement}
 use Rattle.published.proofs.state.Tie as tie
-use Rattle.published.proofs.state.Reads as reads
-use Rattle.published.proofs.state.Lts as lts
-use Rattle.published.proofs.word.Reads as word-reads
 
 abbrev Inv-loop : tie.InvT-loop
 Inv-loop bytes s₀ i₀ s i = (i ≤ 8) × (length s ≡ 8)
@@ -15,43 +11,33 @@ Inv-loop bytes s₀ i₀ s i = (i ≤ 8) × (length s ≡ 8)
 abbrev μ-loop : tie.MeasureT-loop
 μ-loop bytes s₀ i₀ s i = 8 - i
 
--- src/main.rt:51:5
 loop-holds : tie.Need-loop-holds Inv-loop μ-loop
 loop-holds c = search needs
 
--- src/main.rt:52:33
 mul-word : tie.Need-mul-word Inv-loop μ-loop
 mul-word c = search needs
 
--- src/main.rt:52:28
 add-word : tie.Need-add-word Inv-loop μ-loop
 add-word c = search needs
 
--- src/main.rt:52:16
 word-requires : tie.Need-word-requires Inv-loop μ-loop
 word-requires c κs = search needs
 
--- src/main.rt:52:9
 mul-s : tie.Need-mul-s Inv-loop μ-loop
 mul-s c = search needs
 
--- src/main.rt:52:9
 array-write-s : tie.Need-array-write-s Inv-loop μ-loop
 array-write-s c = search needs
 
--- src/main.rt:51:9
 add-i : tie.Need-add-i Inv-loop μ-loop
 add-i c = search needs
 
--- src/main.rt:51:5
 loop-less : tie.Need-loop-less Inv-loop μ-loop
 loop-less c = search needs
 
--- src/main.rt:51:5
 loop-again : tie.Need-loop-again Inv-loop μ-loop
 loop-again c = search needs
 
--- src/main.rt:47:1
 returns : tie.Need-returns Inv-loop μ-loop
 returns c = search needs
 

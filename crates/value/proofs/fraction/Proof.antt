@@ -1,6 +1,6 @@
 use mathlib.Core.Path.{subst}
 use mathlib.Core.Bool.{false}
-use Prim.Native.Nat.{_^_}
+use Prim.Native.Nat.{_^_, ℕ, _≤_, _-_}
 use lib.Dec.{le→leb}
 use lib.Pow.{pow-mono, pow-pos}
 use lib.IntN.{pos}
@@ -12,32 +12,22 @@ use Rattle.document.specs.Value.{valueBits}
 use Rattle.value.specs.Exact.{div-exact, whole-value}
 use Rattle.value.specs.Unique.{unique}
 use Rattle.value.specs.Theorems.{value-exact}
-use mathlib.Core.Path.{_≡_, refl, sym, ap, _∙_}
-use Prim.Native.Nat.{ℕ, zero, suc, _+_, _*_, _≤_, _<_, _-_}
 use native.Mathlib.Omega.{arith}
-use lib.ListN.{length, getD, set, length-set}
 use borrow.Author.Needs.{needs}
 use Rattle.value.proofs.fraction.Statement.{statement}
 use Rattle.value.proofs.fraction.Tie as tie
-use Rattle.value.proofs.fraction.Reads as reads
-use Rattle.value.proofs.fraction.Lts as lts
-use Rattle.value.proofs.power.Reads as power-reads
 
--- src/lib.rt:34:9
 power-requires : tie.Need-power-requires
 power-requires c κs = search needs
 
--- src/lib.rt:35:6
 int-to-float-result : tie.Need-int-to-float-result
 unfolding inFloat
 int-to-float-result c = le→leb (c .before .before .args .y) (2 ^ 53) (omega arith)
 
--- src/lib.rt:35:19
 int-to-float-result-2 : tie.Need-int-to-float-result-2
 unfolding inFloat
 int-to-float-result-2 c = let q : c .before .before .power .result ≤ 2 ^ 53 = omega (arith, c .before .before .power .ensures, pow-mono {i = c .before .before .before .args .l} {j = 53} (omega arith)) in le→leb _ _ q
 
--- src/lib.rt:30:1
 returns : tie.Need-returns
 returns c = let q : c .before .before .power .result ≤ 2 ^ 53 = omega (arith, c .before .before .power .ensures, pow-mono {i = c .before .before .before .args .l} {j = 53} (omega arith)) in
     let v = div-exact (ofInt binary64 (pos (c .before .before .before .args .y))) (ofInt binary64 (pos (c .before .before .power .result))) (c .before .before .before .args .y) (c .before .before .before .args .l) (omega arith) (omega arith) (whole-value (c .before .before .before .args .y) (omega arith))

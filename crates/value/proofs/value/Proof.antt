@@ -1,29 +1,19 @@
 use Rattle.value.specs.Theorems.{value-accepted}
-use mathlib.Core.Path.{_≡_, refl, sym, ap, _∙_}
-use Prim.Native.Nat.{ℕ, zero, suc, _+_, _*_, _≤_, _<_, _-_}
-use native.Mathlib.Omega.{arith}
-use lib.ListN.{length, getD, set, length-set}
+use mathlib.Core.Path.{refl, sym, _∙_}
+use Prim.Native.Nat.{_-_}
 use borrow.Author.Needs.{needs}
 use Rattle.value.proofs.value.Statement.{statement}
 use Rattle.value.proofs.value.Tie as tie
-use Rattle.value.proofs.value.Reads as reads
-use Rattle.value.proofs.value.Lts as lts
-use Rattle.value.proofs.fraction.Reads as fraction-reads
-use Rattle.value.proofs.value_refusal.Reads as value-refusal-reads
 
--- src/lib.rt:55:9
 value-refusal-requires : tie.Need-value-refusal-requires
 value-refusal-requires c κs = search needs
 
--- src/lib.rt:57:9
 returns : tie.Need-returns
 returns c = record { number = c .before .value-refusal .ensures; accepted = λ e. absurd (c .if1 .taken (c .before .value-refusal .ensures ∙ e)); refused = λ _. refl }
 
--- src/lib.rt:64:16
 fraction-requires : tie.Need-fraction-requires
 fraction-requires c κs = value-accepted (c .before .before .args .y) (c .before .before .args .l) (sym (c .before .value-refusal .ensures) ∙ c .if1 .left)
 
--- src/lib.rt:52:1
 returns-2 : tie.Need-returns-2
 returns-2 c = record { number = c .before .before .value-refusal .ensures; accepted = λ _. c .fraction .ensures; refused = λ n. absurd (n (sym (c .before .before .value-refusal .ensures) ∙ c .before .if1 .left)) }
 

@@ -1,53 +1,36 @@
-use Rattle.document.specs.Generator.{byKind}
-use Rattle.document.specs.Description.{lengthOf, fieldsOf, noFields}
-use Rattle.document.specs.Ranges.{is-one, is-two, is-three, is-four, is-other}
-use mathlib.Core.Path.{_≡_, refl, sym, ap, _∙_}
-use Prim.Native.Nat.{ℕ, zero, suc, _+_, _*_, _≤_, _<_, _-_}
+use Rattle.document.specs.Ranges.{is-one, is-two, is-three, is-four}
+use mathlib.Core.Path.{_≡_, _∙_}
+use Prim.Native.Nat.{_-_}
 use native.Mathlib.Omega.{arith}
-use lib.ListN.{length, getD, set, length-set}
+use lib.ListN.{getD}
 use borrow.Author.Needs.{needs}
 use Rattle.description.proofs.reading.fields_of.Statement.{statement}
 use Rattle.description.proofs.reading.fields_of.Tie as tie
-use Rattle.description.proofs.reading.fields_of.Reads as reads
-use Rattle.description.proofs.reading.fields_of.Lts as lts
-use Rattle.description.proofs.reading.gfsr.Reads as gfsr-reads
-use Rattle.description.proofs.reading.mersenne.Reads as mersenne-reads
-use Rattle.description.proofs.reading.tausworthe.Reads as tausworthe-reads
-use Rattle.description.proofs.reading.twisted.Reads as twisted-reads
 
--- src/reading.rt:131:16
 shared-slice-read-kind : tie.Need-shared-slice-read-kind
 shared-slice-read-kind c = search needs
 
--- src/reading.rt:133:9
 tausworthe-requires : tie.Need-tausworthe-requires
 tausworthe-requires c κs = (c .if1 .taken, c .before .before .before .pre .2 ∙ is-one _ _ _ _ _ (c .if1 .taken))
 
--- src/reading.rt:133:9
 returns : tie.Need-returns
 returns c = search needs
 
--- src/reading.rt:136:9
 gfsr-requires : tie.Need-gfsr-requires
 gfsr-requires c κs = (c .if2 .taken, c .before .before .before .before .pre .2 ∙ is-two _ _ _ _ _ (c .if2 .taken))
 
--- src/reading.rt:136:9
 returns-2 : tie.Need-returns-2
 returns-2 c = search needs
 
--- src/reading.rt:139:9
 twisted-requires : tie.Need-twisted-requires
 twisted-requires c κs = (c .if3 .taken, c .before .before .before .before .before .pre .2 ∙ is-three _ _ _ _ _ (c .if3 .taken))
 
--- src/reading.rt:139:9
 returns-3 : tie.Need-returns-3
 returns-3 c = search needs
 
--- src/reading.rt:141:5
 mersenne-requires : tie.Need-mersenne-requires
 mersenne-requires c κs = let e : getD (c .before .before .before .before .before .args .bytes .now) 0 0 ≡ 4 = omega (arith, c .before .before .before .before .before .pre .0, c .before .before .before .before .before .pre .1, c .before .before .if1 .left, c .before .if2 .left, c .if3 .left) in (e, c .before .before .before .before .before .pre .2 ∙ is-four _ _ _ _ _ e)
 
--- src/reading.rt:127:1
 returns-4 : tie.Need-returns-4
 returns-4 c = search needs
 

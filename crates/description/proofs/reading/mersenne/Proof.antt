@@ -1,76 +1,54 @@
-use Rattle.document.specs.Generator.{byKind}
-use Rattle.document.specs.Description.{lengthOf, fieldsOf, noFields}
-use Rattle.document.specs.Ranges.{is-one, is-two, is-three, is-four, is-other}
-use mathlib.Core.Path.{_≡_, refl, sym, ap, _∙_}
-use Prim.Native.Nat.{ℕ, zero, suc, _+_, _*_, _≤_, _<_, _-_}
-use native.Mathlib.Omega.{arith}
-use lib.ListN.{length, getD, set, length-set}
+use Rattle.document.specs.Description.{fieldsOf}
+use Rattle.document.specs.Ranges.{is-four}
+use mathlib.Core.Path.{sym, _∙_}
+use Prim.Native.Nat.{_-_}
+use lib.ListN.{getD}
 use borrow.Author.Needs.{needs}
 use Rattle.description.proofs.reading.mersenne.Statement.{statement}
 use Rattle.description.proofs.reading.mersenne.Tie as tie
-use Rattle.description.proofs.reading.mersenne.Reads as reads
-use Rattle.description.proofs.reading.mersenne.Lts as lts
-use Rattle.description.proofs.numbers.number2.Reads as number2-reads
-use Rattle.description.proofs.numbers.number4.Reads as number4-reads
-use Rattle.description.proofs.reading.no_fields.Reads as no-fields-reads
 
--- src/reading.rt:109:9
 no-fields-requires : tie.Need-no-fields-requires
 no-fields-requires c κs = search needs
 
--- src/reading.rt:110:14
 shared-slice-read-g : tie.Need-shared-slice-read-g
 shared-slice-read-g c = search needs
 
--- src/reading.rt:111:5
 number2-requires : tie.Need-number2-requires
 number2-requires c κs = search needs
 
--- src/reading.rt:112:5
 number2-requires-2 : tie.Need-number2-requires-2
 number2-requires-2 c κs = search needs
 
--- src/reading.rt:113:11
 shared-slice-read-g-2 : tie.Need-shared-slice-read-g-2
 shared-slice-read-g-2 c = search needs
 
--- src/reading.rt:114:11
 shared-slice-read-g-3 : tie.Need-shared-slice-read-g-3
 shared-slice-read-g-3 c = search needs
 
--- src/reading.rt:115:14
 shared-slice-read-g-4 : tie.Need-shared-slice-read-g-4
 shared-slice-read-g-4 c = search needs
 
--- src/reading.rt:116:5
 number4-requires : tie.Need-number4-requires
 number4-requires c κs = search needs
 
--- src/reading.rt:117:11
 shared-slice-read-g-5 : tie.Need-shared-slice-read-g-5
 shared-slice-read-g-5 c = search needs
 
--- src/reading.rt:118:11
 shared-slice-read-g-6 : tie.Need-shared-slice-read-g-6
 shared-slice-read-g-6 c = search needs
 
--- src/reading.rt:119:5
 number4-requires-2 : tie.Need-number4-requires-2
 number4-requires-2 c κs = search needs
 
--- src/reading.rt:120:11
 shared-slice-read-g-7 : tie.Need-shared-slice-read-g-7
 shared-slice-read-g-7 c = search needs
 
--- src/reading.rt:121:5
 number4-requires-3 : tie.Need-number4-requires-3
 number4-requires-3 c κs = search needs
 
--- src/reading.rt:122:11
 shared-slice-read-g-8 : tie.Need-shared-slice-read-g-8
 shared-slice-read-g-8 c = search needs
 
--- src/reading.rt:105:1
 returns : tie.Need-returns
 unfolding fieldsOf
 returns c = (λ i. record { kind = getD (c .before .before .before .before .before .before .before .before .before .before .before .before .before .before .before .args .bytes .now) 0 0; k = (c .before .before .before .before .before .before .before .before .before .before .before .before .before .no-fields .ensures) i .k; nu = (c .before .before .before .before .before .before .before .before .before .before .before .before .before .no-fields .ensures) i .nu; r = (c .before .before .before .before .before .before .before .before .before .before .before .number2 .ensures) i; m = (c .before .before .before .before .before .before .before .before .before .before .number22 .ensures) i; w = getD (c .before .before .before .before .before .before .before .before .before .before .before .before .before .before .before .args .bytes .now) 5 0; p = getD (c .before .before .before .before .before .before .before .before .before .before .before .before .before .before .before .args .bytes .now) 6 0; bits = getD (c .before .before .before .before .before .before .before .before .before .before .before .before .before .before .before .args .bytes .now) 7 0; a = (c .before .before .before .before .before .before .number4 .ensures) i; u = getD (c .before .before .before .before .before .before .before .before .before .before .before .before .before .before .before .args .bytes .now) 12 0; s = getD (c .before .before .before .before .before .before .before .before .before .before .before .before .before .before .before .args .bytes .now) 13 0; b = (c .before .before .before .number42 .ensures) i; t = getD (c .before .before .before .before .before .before .before .before .before .before .before .before .before .before .before .args .bytes .now) 18 0; c = (c .before .number43 .ensures) i; v = getD (c .before .before .before .before .before .before .before .before .before .before .before .before .before .before .before .args .bytes .now) 23 0; coefficients = (c .before .before .before .before .before .before .before .before .before .before .before .before .before .no-fields .ensures) i .coefficients }) ∙ sym (is-four _ _ _ _ _ (c .before .before .before .before .before .before .before .before .before .before .before .before .before .before .before .pre .0))

@@ -1,44 +1,30 @@
-use Rattle.document.specs.Generator.{byKind}
-use Rattle.document.specs.Description.{lengthOf, fieldsOf, noFields}
-use Rattle.document.specs.Ranges.{is-one, is-two, is-three, is-four, is-other}
-use mathlib.Core.Path.{_≡_, refl, sym, ap, _∙_}
-use Prim.Native.Nat.{ℕ, zero, suc, _+_, _*_, _≤_, _<_, _-_}
-use native.Mathlib.Omega.{arith}
-use lib.ListN.{length, getD, set, length-set}
+use Rattle.document.specs.Description.{fieldsOf}
+use Rattle.document.specs.Ranges.{is-one}
+use mathlib.Core.Path.{sym, _∙_}
+use Prim.Native.Nat.{_-_}
+use lib.ListN.{getD}
 use borrow.Author.Needs.{needs}
 use Rattle.description.proofs.reading.tausworthe.Statement.{statement}
 use Rattle.description.proofs.reading.tausworthe.Tie as tie
-use Rattle.description.proofs.reading.tausworthe.Reads as reads
-use Rattle.description.proofs.reading.tausworthe.Lts as lts
-use Rattle.description.proofs.numbers.coefficients.Reads as coefficients-reads
-use Rattle.description.proofs.numbers.number2.Reads as number2-reads
-use Rattle.description.proofs.reading.no_fields.Reads as no-fields-reads
 
--- src/reading.rt:60:9
 no-fields-requires : tie.Need-no-fields-requires
 no-fields-requires c κs = search needs
 
--- src/reading.rt:61:14
 shared-slice-read-g : tie.Need-shared-slice-read-g
 shared-slice-read-g c = search needs
 
--- src/reading.rt:62:5
 number2-requires : tie.Need-number2-requires
 number2-requires c κs = search needs
 
--- src/reading.rt:63:14
 shared-slice-read-g-2 : tie.Need-shared-slice-read-g-2
 shared-slice-read-g-2 c = search needs
 
--- src/reading.rt:64:12
 shared-slice-read-g-3 : tie.Need-shared-slice-read-g-3
 shared-slice-read-g-3 c = search needs
 
--- src/reading.rt:65:9
 coefficients-requires : tie.Need-coefficients-requires
 coefficients-requires c κs = search needs
 
--- src/reading.rt:56:1
 returns : tie.Need-returns
 unfolding fieldsOf
 returns c = (λ i. record { kind = getD (c .before .before .before .before .before .before .before .args .bytes .now) 0 0; k = (c .before .before .before .number2 .ensures) i; nu = getD (c .before .before .before .before .before .before .before .args .bytes .now) 4 0; r = (c .before .before .before .before .before .no-fields .ensures) i .r; m = (c .before .before .before .before .before .no-fields .ensures) i .m; w = (c .before .before .before .before .before .no-fields .ensures) i .w; p = (c .before .before .before .before .before .no-fields .ensures) i .p; bits = getD (c .before .before .before .before .before .before .before .args .bytes .now) 3 0; a = (c .before .before .before .before .before .no-fields .ensures) i .a; u = (c .before .before .before .before .before .no-fields .ensures) i .u; s = (c .before .before .before .before .before .no-fields .ensures) i .s; b = (c .before .before .before .before .before .no-fields .ensures) i .b; t = (c .before .before .before .before .before .no-fields .ensures) i .t; c = (c .before .before .before .before .before .no-fields .ensures) i .c; v = (c .before .before .before .before .before .no-fields .ensures) i .v; coefficients = (c .coefficients .ensures) i }) ∙ sym (is-one _ _ _ _ _ (c .before .before .before .before .before .before .before .pre .0))

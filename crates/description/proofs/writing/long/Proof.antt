@@ -1,19 +1,12 @@
-use mathlib.Core.List.{[], _∷_, _++_}
-use Rattle.description.proofs.Laws.{stored, filled-is, put-is}
-use Rattle.document.specs.Limits.{coefficientBytes}
-use mathlib.Core.List.{_∷_, _++_}
-use lib.ListN.{length-append, List·getD-append}
-use lib.Seq.{getD-append-add}
-use mathlib.Core.Path.{_≡_, refl, sym, ap, _∙_}
-use Prim.Native.Nat.{ℕ, zero, suc, _+_, _*_, _≤_, _<_, _-_}
+use mathlib.Core.List.{_++_}
+use Rattle.description.proofs.Laws.{stored, filled-is}
+use lib.ListN.{length-append, length, getD, set, length-set}
+use mathlib.Core.Path.{_≡_, refl, ap}
+use Prim.Native.Nat.{ℕ, _+_, _≤_, _<_, _-_}
 use native.Mathlib.Omega.{arith}
-use lib.ListN.{length, getD, set, length-set}
 use borrow.Author.Needs.{needs}
 use Rattle.description.proofs.writing.long.Statement.{statement}
 use Rattle.description.proofs.writing.long.Tie as tie
-use Rattle.description.proofs.writing.long.Reads as reads
-use Rattle.description.proofs.writing.long.Lts as lts
-use Rattle.description.proofs.writing.long_byte.Reads as long-byte-reads
 
 abbrev Inv-loop : tie.InvT-loop
 Inv-loop head coefficients r₀ i₀ r i = (i ≤ 65) × (length r ≡ 65) × ((j : ℕ) → j < i → getD r j 0 ≡ getD (head ++ coefficients) j 0)
@@ -21,31 +14,24 @@ Inv-loop head coefficients r₀ i₀ r i = (i ≤ 65) × (length r ≡ 65) × ((
 abbrev μ-loop : tie.MeasureT-loop
 μ-loop head coefficients r₀ i₀ r i = 65 - i
 
--- src/writing.rt:128:5
 loop-holds : tie.Need-loop-holds Inv-loop μ-loop
 loop-holds c = (omega arith, refl, λ j h. absurd (omega arith))
 
--- src/writing.rt:129:16
 long-byte-requires : tie.Need-long-byte-requires Inv-loop μ-loop
 long-byte-requires c κs = search needs
 
--- src/writing.rt:129:9
 array-write-r : tie.Need-array-write-r Inv-loop μ-loop
 array-write-r c = search needs
 
--- src/writing.rt:128:9
 add-i : tie.Need-add-i Inv-loop μ-loop
 add-i c = search needs
 
--- src/writing.rt:128:5
 loop-less : tie.Need-loop-less Inv-loop μ-loop
 loop-less c = search needs
 
--- src/writing.rt:128:5
 loop-again : tie.Need-loop-again Inv-loop μ-loop
 loop-again c = (omega arith, simp length-set (c .before .before .loop .inv .1), stored (c .before .before .loop .r) (c .before .before .loop .i) _ (λ j. getD (c .before .before .before .args .head ++ c .before .before .before .args .coefficients) j 0) (search needs) (c .before .before .loop .inv .2) (c .long-byte .ensures))
 
--- src/writing.rt:124:1
 returns : tie.Need-returns Inv-loop μ-loop
 returns c = let e : length (c .before .before .args .head) ≡ 5 = search needs in let f : length (c .before .before .args .coefficients) ≡ 60 = search needs in let q : length (c .before .before .args .head ++ c .before .before .args .coefficients) ≡ 65 = simp length-append (omega arith) in filled-is (c .before .before .args .head ++ c .before .before .args .coefficients) (c .before .loop .r) 65 q (c .before .loop .inv .1) (λ i h. c .before .loop .inv .2 i (omega arith))
 

@@ -1,117 +1,81 @@
-use mathlib.Core.List.{[], _∷_, _++_}
-use Rattle.document.specs.Generator.{byKind}
-use Rattle.document.specs.Description.{lengthOf, bytes, description}
-use Rattle.document.specs.Ranges.{is-one, is-two, is-three, is-four, is-other}
-use mathlib.Core.Path.{_≡_, refl, sym, ap, _∙_}
-use Prim.Native.Nat.{ℕ, zero, suc, _+_, _*_, _≤_, _<_, _-_}
-use native.Mathlib.Omega.{arith}
-use lib.ListN.{length, getD, set, length-set}
+use mathlib.Core.List.{[], _∷_}
+use Rattle.document.specs.Description.{bytes, description}
+use Rattle.document.specs.Ranges.{is-four}
+use mathlib.Core.Path.{sym, ap, _∙_}
+use Prim.Native.Nat.{_-_}
 use borrow.Author.Needs.{needs}
 use Rattle.description.proofs.writing.mersenne.Statement.{statement}
 use Rattle.description.proofs.writing.mersenne.Tie as tie
-use Rattle.description.proofs.writing.mersenne.Reads as reads
-use Rattle.description.proofs.writing.mersenne.Lts as lts
-use Rattle.description.proofs.numbers.byte.Reads as byte-reads
-use Rattle.description.proofs.numbers.byte0.Reads as byte0-reads
-use Rattle.description.proofs.numbers.byte1.Reads as byte1-reads
-use Rattle.description.proofs.numbers.byte2.Reads as byte2-reads
-use Rattle.description.proofs.numbers.byte3.Reads as byte3-reads
-use Rattle.description.proofs.numbers.high.Reads as high-reads
-use Rattle.description.proofs.numbers.low.Reads as low-reads
 
--- src/writing.rt:87:9
 high-requires : tie.Need-high-requires
 high-requires c κs = search needs
 
--- src/writing.rt:88:9
 low-requires : tie.Need-low-requires
 low-requires c κs = search needs
 
--- src/writing.rt:89:9
 high-requires-2 : tie.Need-high-requires-2
 high-requires-2 c κs = search needs
 
--- src/writing.rt:90:9
 low-requires-2 : tie.Need-low-requires-2
 low-requires-2 c κs = search needs
 
--- src/writing.rt:91:9
 byte-requires : tie.Need-byte-requires
 byte-requires c κs = search needs
 
--- src/writing.rt:92:9
 byte-requires-2 : tie.Need-byte-requires-2
 byte-requires-2 c κs = search needs
 
--- src/writing.rt:93:9
 byte-requires-3 : tie.Need-byte-requires-3
 byte-requires-3 c κs = search needs
 
--- src/writing.rt:94:9
 byte3-requires : tie.Need-byte3-requires
 byte3-requires c κs = search needs
 
--- src/writing.rt:95:9
 byte2-requires : tie.Need-byte2-requires
 byte2-requires c κs = search needs
 
--- src/writing.rt:96:9
 byte1-requires : tie.Need-byte1-requires
 byte1-requires c κs = search needs
 
--- src/writing.rt:97:9
 byte0-requires : tie.Need-byte0-requires
 byte0-requires c κs = search needs
 
--- src/writing.rt:98:9
 byte-requires-4 : tie.Need-byte-requires-4
 byte-requires-4 c κs = search needs
 
--- src/writing.rt:99:9
 byte-requires-5 : tie.Need-byte-requires-5
 byte-requires-5 c κs = search needs
 
--- src/writing.rt:100:9
 byte3-requires-2 : tie.Need-byte3-requires-2
 byte3-requires-2 c κs = search needs
 
--- src/writing.rt:101:9
 byte2-requires-2 : tie.Need-byte2-requires-2
 byte2-requires-2 c κs = search needs
 
--- src/writing.rt:102:9
 byte1-requires-2 : tie.Need-byte1-requires-2
 byte1-requires-2 c κs = search needs
 
--- src/writing.rt:103:9
 byte0-requires-2 : tie.Need-byte0-requires-2
 byte0-requires-2 c κs = search needs
 
--- src/writing.rt:104:9
 byte-requires-6 : tie.Need-byte-requires-6
 byte-requires-6 c κs = search needs
 
--- src/writing.rt:105:9
 byte3-requires-3 : tie.Need-byte3-requires-3
 byte3-requires-3 c κs = search needs
 
--- src/writing.rt:106:9
 byte2-requires-3 : tie.Need-byte2-requires-3
 byte2-requires-3 c κs = search needs
 
--- src/writing.rt:107:9
 byte1-requires-3 : tie.Need-byte1-requires-3
 byte1-requires-3 c κs = search needs
 
--- src/writing.rt:108:9
 byte0-requires-3 : tie.Need-byte0-requires-3
 byte0-requires-3 c κs = search needs
 
--- src/writing.rt:109:9
 byte-requires-7 : tie.Need-byte-requires-7
 byte-requires-7 c κs = search needs
 
--- src/writing.rt:81:1
 returns : tie.Need-returns
 unfolding description bytes
 returns c = (λ i. c .before .before .before .before .before .before .before .before .before .before .before .before .before .before .before .before .before .before .before .before .before .before .before .args .g .kind ∷ (c .before .before .before .before .before .before .before .before .before .before .before .before .before .before .before .before .before .before .before .before .before .before .high .ensures) i ∷ (c .before .before .before .before .before .before .before .before .before .before .before .before .before .before .before .before .before .before .before .before .before .low .ensures) i ∷ (c .before .before .before .before .before .before .before .before .before .before .before .before .before .before .before .before .before .before .before .before .high2 .ensures) i ∷ (c .before .before .before .before .before .before .before .before .before .before .before .before .before .before .before .before .before .before .before .low2 .ensures) i ∷ (c .before .before .before .before .before .before .before .before .before .before .before .before .before .before .before .before .before .before .byte .ensures) i ∷ (c .before .before .before .before .before .before .before .before .before .before .before .before .before .before .before .before .before .byte2 .ensures) i ∷ (c .before .before .before .before .before .before .before .before .before .before .before .before .before .before .before .before .byte3 .ensures) i ∷ (c .before .before .before .before .before .before .before .before .before .before .before .before .before .before .before .byte32 .ensures) i ∷ (c .before .before .before .before .before .before .before .before .before .before .before .before .before .before .byte22 .ensures) i ∷ (c .before .before .before .before .before .before .before .before .before .before .before .before .before .byte1 .ensures) i ∷ (c .before .before .before .before .before .before .before .before .before .before .before .before .byte0 .ensures) i ∷ (c .before .before .before .before .before .before .before .before .before .before .before .byte4 .ensures) i ∷ (c .before .before .before .before .before .before .before .before .before .before .byte5 .ensures) i ∷ (c .before .before .before .before .before .before .before .before .before .byte33 .ensures) i ∷ (c .before .before .before .before .before .before .before .before .byte23 .ensures) i ∷ (c .before .before .before .before .before .before .before .byte12 .ensures) i ∷ (c .before .before .before .before .before .before .byte02 .ensures) i ∷ (c .before .before .before .before .before .byte6 .ensures) i ∷ (c .before .before .before .before .byte34 .ensures) i ∷ (c .before .before .before .byte24 .ensures) i ∷ (c .before .before .byte13 .ensures) i ∷ (c .before .byte03 .ensures) i ∷ (c .byte7 .ensures) i ∷ []) ∙ ap (λ l. c .before .before .before .before .before .before .before .before .before .before .before .before .before .before .before .before .before .before .before .before .before .before .before .args .g .kind ∷ l) (sym (is-four _ _ _ _ _ (c .before .before .before .before .before .before .before .before .before .before .before .before .before .before .before .before .before .before .before .before .before .before .before .pre)))

@@ -1,100 +1,71 @@
 use Rattle.description.proofs.Laws.{put-is}
-use mathlib.Core.List.{[], _∷_, _++_}
-use Rattle.document.specs.Generator.{byKind}
-use Rattle.document.specs.Description.{lengthOf, bytes, description}
-use Rattle.document.specs.Ranges.{is-one, is-two, is-three, is-four, is-other}
-use mathlib.Core.Path.{_≡_, refl, sym, ap, _∙_}
-use Prim.Native.Nat.{ℕ, zero, suc, _+_, _*_, _≤_, _<_, _-_}
+use Rattle.document.specs.Description.{lengthOf}
+use Rattle.document.specs.Ranges.{is-one, is-two, is-three, is-other}
+use mathlib.Core.Path.{_≡_, sym, _∙_}
+use Prim.Native.Nat.{_-_}
 use native.Mathlib.Omega.{arith}
-use lib.ListN.{length, getD, set, length-set}
+use lib.ListN.{length}
 use borrow.Author.Needs.{needs}
 use Rattle.description.proofs.writing.put.Statement.{statement}
 use Rattle.description.proofs.writing.put.Tie as tie
-use Rattle.description.proofs.writing.put.Reads as reads
-use Rattle.description.proofs.writing.put.Lts as lts
-use Rattle.bytes.proofs.copy.Reads as copy-reads
-use Rattle.description.proofs.writing.gfsr.Reads as gfsr-reads
-use Rattle.description.proofs.writing.mersenne.Reads as mersenne-reads
-use Rattle.description.proofs.writing.tausworthe.Reads as tausworthe-reads
-use Rattle.description.proofs.writing.twisted.Reads as twisted-reads
 
--- src/writing.rt:161:17
 tausworthe-requires : tie.Need-tausworthe-requires
 tausworthe-requires c κs = search needs
 
--- src/writing.rt:162:21
 slice-aggregate-copy : tie.Need-slice-aggregate-copy
 slice-aggregate-copy c = search needs
 
--- src/writing.rt:162:9
 copy-requires : tie.Need-copy-requires
 copy-requires c κs = let e : lengthOf (c .before .before .before .before .before .args .g .kind) ≡ 65 = is-one _ _ _ _ _ (c .before .before .before .if1 .taken) in let f : length (c .before .before .tausworthe .result) ≡ 65 = search needs in omega (arith, c .before .before .before .before .before .pre .2)
 
--- src/writing.rt:163:9
 same-length : tie.Need-same-length
 same-length c = search needs
 
--- src/writing.rt:163:9
 returns : tie.Need-returns
 returns c = let e : lengthOf (c .before .before .before .before .before .before .before .before .args .g .kind) ≡ 65 = is-one _ _ _ _ _ (c .before .before .before .before .before .before .if1 .taken) in let f : length (c .before .before .before .before .before .tausworthe .result) ≡ 65 = search needs in put-is _ _ _ _ _ (c .before .before .before .before .before .tausworthe .ensures) (f ∙ sym e) (c .before .before .copy .ensures .1)
 
--- src/writing.rt:166:17
 gfsr-requires : tie.Need-gfsr-requires
 gfsr-requires c κs = search needs
 
--- src/writing.rt:167:21
 slice-aggregate-copy-2 : tie.Need-slice-aggregate-copy-2
 slice-aggregate-copy-2 c = search needs
 
--- src/writing.rt:167:9
 copy-requires-2 : tie.Need-copy-requires-2
 copy-requires-2 c κs = let e : lengthOf (c .before .before .before .before .before .before .args .g .kind) ≡ 65 = is-two _ _ _ _ _ (c .before .before .before .if2 .taken) in let f : length (c .before .before .gfsr .result) ≡ 65 = search needs in omega (arith, c .before .before .before .before .before .before .pre .2)
 
--- src/writing.rt:168:9
 same-length-2 : tie.Need-same-length-2
 same-length-2 c = search needs
 
--- src/writing.rt:168:9
 returns-2 : tie.Need-returns-2
 returns-2 c = let e : lengthOf (c .before .before .before .before .before .before .before .before .before .args .g .kind) ≡ 65 = is-two _ _ _ _ _ (c .before .before .before .before .before .before .if2 .taken) in let f : length (c .before .before .before .before .before .gfsr .result) ≡ 65 = search needs in put-is _ _ _ _ _ (c .before .before .before .before .before .gfsr .ensures) (f ∙ sym e) (c .before .before .copy2 .ensures .1)
 
--- src/writing.rt:171:17
 twisted-requires : tie.Need-twisted-requires
 twisted-requires c κs = search needs
 
--- src/writing.rt:172:21
 slice-aggregate-copy-3 : tie.Need-slice-aggregate-copy-3
 slice-aggregate-copy-3 c = search needs
 
--- src/writing.rt:172:9
 copy-requires-3 : tie.Need-copy-requires-3
 copy-requires-3 c κs = let e : lengthOf (c .before .before .before .before .before .before .before .args .g .kind) ≡ 21 = is-three _ _ _ _ _ (c .before .before .before .if3 .taken) in let f : length (c .before .before .twisted .result) ≡ 21 = search needs in omega (arith, c .before .before .before .before .before .before .before .pre .2)
 
--- src/writing.rt:173:9
 same-length-3 : tie.Need-same-length-3
 same-length-3 c = search needs
 
--- src/writing.rt:173:9
 returns-3 : tie.Need-returns-3
 returns-3 c = let e : lengthOf (c .before .before .before .before .before .before .before .before .before .before .args .g .kind) ≡ 21 = is-three _ _ _ _ _ (c .before .before .before .before .before .before .if3 .taken) in let f : length (c .before .before .before .before .before .twisted .result) ≡ 21 = search needs in put-is _ _ _ _ _ (c .before .before .before .before .before .twisted .ensures) (f ∙ sym e) (c .before .before .copy3 .ensures .1)
 
--- src/writing.rt:175:13
 mersenne-requires : tie.Need-mersenne-requires
 mersenne-requires c κs = omega (arith, c .before .before .before .before .pre .0, c .before .before .before .before .pre .1, c .before .before .if1 .left, c .before .if2 .left, c .if3 .left)
 
--- src/writing.rt:176:17
 slice-aggregate-copy-4 : tie.Need-slice-aggregate-copy-4
 slice-aggregate-copy-4 c = search needs
 
--- src/writing.rt:176:5
 copy-requires-4 : tie.Need-copy-requires-4
 copy-requires-4 c κs = let e : lengthOf (c .before .before .before .before .before .before .before .args .g .kind) ≡ 24 = is-other _ _ _ _ _ (c .before .before .before .before .before .if1 .left) (c .before .before .before .before .if2 .left) (c .before .before .before .if3 .left) in let f : length (c .before .before .mersenne .result) ≡ 24 = search needs in omega (arith, c .before .before .before .before .before .before .before .pre .2)
 
--- src/writing.rt:155:1
 same-length-4 : tie.Need-same-length-4
 same-length-4 c = search needs
 
--- src/writing.rt:155:1
 returns-4 : tie.Need-returns-4
 returns-4 c = let e : lengthOf (c .before .before .before .before .before .before .before .before .before .before .args .g .kind) ≡ 24 = is-other _ _ _ _ _ (c .before .before .before .before .before .before .before .before .if1 .left) (c .before .before .before .before .before .before .before .if2 .left) (c .before .before .before .before .before .before .if3 .left) in let f : length (c .before .before .before .before .before .mersenne .result) ≡ 24 = search needs in put-is _ _ _ _ _ (c .before .before .before .before .before .mersenne .ensures) (f ∙ sym e) (c .before .before .copy4 .ensures .1)
 

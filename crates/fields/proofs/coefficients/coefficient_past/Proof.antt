@@ -1,21 +1,15 @@
 use Rattle.document.specs.Generator.{coefficient}
-use Rattle.digits.specs.Def.{digit}
-use Rattle.digits.specs.Parity.{digit-test}
 use Rattle.document.specs.Refusals.{any, coefficientPast}
 use Rattle.document.specs.Limits.{coefficientBytes}
 use Rattle.document.specs.Ranges.{any-next, any-found}
 use mathlib.Core.Bool.{not, false, _&&_}
 use lib.Dec.{ltb}
-use mathlib.Core.Path.{_≡_, refl, sym, ap, _∙_}
-use Prim.Native.Nat.{ℕ, zero, suc, _+_, _*_, _≤_, _<_, _-_}
+use mathlib.Core.Path.{_≡_, refl, sym, _∙_}
+use Prim.Native.Nat.{_*_, _≤_, _-_}
 use native.Mathlib.Omega.{arith}
-use lib.ListN.{length, getD, set, length-set}
 use borrow.Author.Needs.{needs}
 use Rattle.fields.proofs.coefficients.coefficient_past.Statement.{statement}
 use Rattle.fields.proofs.coefficients.coefficient_past.Tie as tie
-use Rattle.fields.proofs.coefficients.coefficient_past.Reads as reads
-use Rattle.fields.proofs.coefficients.coefficient_past.Lts as lts
-use Rattle.fields.proofs.coefficients.late_coefficient.Reads as late-coefficient-reads
 
 abbrev Inv-loop : tie.InvT-loop
 Inv-loop g n i₀ i = (i ≤ 8 * coefficientBytes) × (any i (λ i. not (ltb i n) && coefficient g i) ≡ false)
@@ -23,33 +17,26 @@ Inv-loop g n i₀ i = (i ≤ 8 * coefficientBytes) × (any i (λ i. not (ltb i n
 abbrev μ-loop : tie.MeasureT-loop
 μ-loop g n i₀ i = 8 * coefficientBytes - i
 
--- src/coefficients.rt:44:5
 loop-holds : tie.Need-loop-holds Inv-loop μ-loop
 unfolding any
 loop-holds c = (omega arith, refl)
 
--- src/coefficients.rt:45:12
 late-coefficient-requires : tie.Need-late-coefficient-requires Inv-loop μ-loop
 late-coefficient-requires c κs = search needs
 
--- src/coefficients.rt:46:13
 returns : tie.Need-returns Inv-loop μ-loop
 unfolding coefficientPast
 returns c = sym (any-found (8 * coefficientBytes) _ (c .before .before .before .loop .i) (search needs) (sym (c .before .late-coefficient .ensures) ∙ c .if1 .taken))
 
--- src/coefficients.rt:44:9
 add-i : tie.Need-add-i Inv-loop μ-loop
 add-i c = search needs
 
--- src/coefficients.rt:44:5
 loop-less : tie.Need-loop-less Inv-loop μ-loop
 loop-less c = search needs
 
--- src/coefficients.rt:44:5
 loop-again : tie.Need-loop-again Inv-loop μ-loop
 loop-again c = (omega arith, any-next (c .before .before .before .loop .i) _ (c .before .before .before .loop .inv .1) (sym (c .before .late-coefficient .ensures) ∙ c .if1 .left))
 
--- src/coefficients.rt:41:1
 returns-2 : tie.Need-returns-2 Inv-loop μ-loop
 unfolding coefficientPast
 returns-2 c = let e : c .before .loop .i ≡ 8 * coefficientBytes = omega arith in sym (rw e at (c .before .loop .inv .1))

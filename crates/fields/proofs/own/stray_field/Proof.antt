@@ -1,77 +1,54 @@
-use Rattle.fields.proofs.Laws.{or-left, or-right, taken, passed, in-one, in-two, in-three, in-other, set-taken, set-passed, nonzero-test}
-use borrow.Author.Tests.{lt-ltb, le-ltb, eq-eqb, ne-eqb, not-true, not-false}
-use Rattle.document.specs.Refusals.{outside, badBits, wideWord, badOwn, oneSet, strayOne, strayTwist, strayField, badValue, rangeRefusal, fieldRefusal, lowest, any, coefficientPast}
-use mathlib.Core.Path.{_≡_, refl, sym, ap, _∙_}
-use Prim.Native.Nat.{ℕ, zero, suc, _+_, _*_, _≤_, _<_, _-_}
-use native.Mathlib.Omega.{arith}
-use lib.ListN.{length, getD, set, length-set}
+use Rattle.fields.proofs.Laws.{taken, passed, in-one, in-two, in-three, in-other, set-taken, set-passed}
+use Rattle.document.specs.Refusals.{strayField}
+use Prim.Native.Nat.{_-_}
+use lib.ListN.{set}
 use borrow.Author.Needs.{needs}
 use Rattle.fields.proofs.own.stray_field.Statement.{statement}
 use Rattle.fields.proofs.own.stray_field.Tie as tie
-use Rattle.fields.proofs.own.stray_field.Reads as reads
-use Rattle.fields.proofs.own.stray_field.Lts as lts
-use Rattle.fields.proofs.coefficients.coefficient_past.Reads as coefficient-past-reads
-use Rattle.fields.proofs.own.stray_in_one.Reads as stray-in-one-reads
-use Rattle.fields.proofs.own.stray_in_three.Reads as stray-in-three-reads
-use Rattle.fields.proofs.own.stray_one.Reads as stray-one-reads
-use Rattle.fields.proofs.own.stray_twist.Reads as stray-twist-reads
 
--- src/own.rt:133:9
 stray-in-one-requires : tie.Need-stray-in-one-requires
 stray-in-one-requires c κs = search needs
 
--- src/own.rt:133:9
 returns : tie.Need-returns
 unfolding strayField
 returns c = in-one _ _ _ _ _ _ (c .before .if1 .taken) (c .stray-in-one .ensures)
 
--- src/own.rt:135:9
 stray-one-requires : tie.Need-stray-one-requires
 stray-one-requires c κs = search needs
 
--- src/own.rt:138:13
 returns-2 : tie.Need-returns-2
 unfolding strayField
 returns-2 c = in-two _ _ _ _ _ _ (c .before .if2 .taken) (taken _ _ _ (c .before .before .stray-one .ensures) (c .if3 .taken))
 
--- src/own.rt:141:13
 returns-3 : tie.Need-returns-3
 unfolding strayField
 returns-3 c = in-two _ _ _ _ _ _ (c .before .before .before .if2 .taken) (passed _ _ _ _ (c .before .before .before .before .stray-one .ensures) (c .before .before .if3 .left) (set-taken _ _ (c .if4 .taken)))
 
--- src/own.rt:143:9
 stray-twist-requires : tie.Need-stray-twist-requires
 stray-twist-requires c κs = search needs
 
--- src/own.rt:143:9
 returns-4 : tie.Need-returns-4
 unfolding strayField
 returns-4 c = in-two _ _ _ _ _ _ (c .before .before .before .before .if2 .taken) (passed _ _ _ _ (c .before .before .before .before .before .stray-one .ensures) (c .before .before .before .if3 .left) (set-passed _ _ _ (c .before .if4 .left) (c .stray-twist .ensures)))
 
--- src/own.rt:147:13
 returns-5 : tie.Need-returns-5
 unfolding strayField
 returns-5 c = in-three _ _ _ _ _ _ (c .before .if5 .taken) (taken _ _ _ (c .before .before .before .stray-one .ensures) (c .if6 .taken))
 
--- src/own.rt:149:9
 stray-in-three-requires : tie.Need-stray-in-three-requires
 stray-in-three-requires c κs = search needs
 
--- src/own.rt:149:9
 returns-6 : tie.Need-returns-6
 unfolding strayField
 returns-6 c = in-three _ _ _ _ _ _ (c .before .before .if5 .taken) (passed _ _ _ _ (c .before .before .before .before .stray-one .ensures) (c .before .if6 .left) (c .stray-in-three .ensures))
 
--- src/own.rt:152:9
 returns-7 : tie.Need-returns-7
 unfolding strayField
 returns-7 c = in-other _ _ _ _ _ _ (c .before .before .before .before .if1 .left) (c .before .before .if2 .left) (c .before .if5 .left) (taken _ _ _ (c .before .before .before .stray-one .ensures) (c .if7 .taken))
 
--- src/own.rt:154:5
 coefficient-past-requires : tie.Need-coefficient-past-requires
 coefficient-past-requires c κs = search needs
 
--- src/own.rt:128:1
 returns-8 : tie.Need-returns-8
 unfolding strayField
 returns-8 c = in-other _ _ _ _ _ _ (c .before .before .before .before .before .if1 .left) (c .before .before .before .if2 .left) (c .before .before .if5 .left) (passed _ _ _ _ (c .before .before .before .before .stray-one .ensures) (c .before .if7 .left) (c .coefficient-past .ensures))

@@ -1,54 +1,39 @@
-use Rattle.fields.proofs.Laws.{or-left, or-right, taken, passed, in-one, in-two, in-three, in-other}
-use Rattle.document.specs.Refusals.{outside, badWords, badTwist, badSize, badBits, badPair, badShift}
-use mathlib.Core.Path.{_≡_, refl, sym, ap, _∙_}
-use Prim.Native.Nat.{ℕ, zero, suc, _+_, _*_, _≤_, _<_, _-_}
-use native.Mathlib.Omega.{arith}
-use lib.ListN.{length, getD, set, length-set}
+use Rattle.fields.proofs.Laws.{taken, passed, in-one, in-two, in-three, in-other}
+use Rattle.document.specs.Refusals.{outside, badShift}
+use mathlib.Core.Path.{refl}
+use Prim.Native.Nat.{_-_}
 use borrow.Author.Needs.{needs}
 use Rattle.fields.proofs.ranges.bad_shift.Statement.{statement}
 use Rattle.fields.proofs.ranges.bad_shift.Tie as tie
-use Rattle.fields.proofs.ranges.bad_shift.Reads as reads
-use Rattle.fields.proofs.ranges.bad_shift.Lts as lts
-use Rattle.fields.proofs.ranges.bad_pair.Reads as bad-pair-reads
-use Rattle.fields.proofs.ranges.outside.Reads as outside-reads
 
--- src/ranges.rt:105:32
 cast-outside : tie.Need-cast-outside
 cast-outside c = search needs
 
--- src/ranges.rt:105:9
 outside-requires : tie.Need-outside-requires
 outside-requires c κs = search needs
 
--- src/ranges.rt:105:9
 returns : tie.Need-returns
 unfolding badShift
 returns c = in-one _ _ _ _ _ _ (c .before .before .if1 .taken) (c .outside .ensures)
 
--- src/ranges.rt:108:9
 returns-2 : tie.Need-returns-2
 unfolding badShift
 returns-2 c = in-two _ _ _ _ _ _ (c .if2 .taken) refl
 
--- src/ranges.rt:110:9
 bad-pair-requires : tie.Need-bad-pair-requires
 bad-pair-requires c κs = search needs
 
--- src/ranges.rt:112:9
 returns-3 : tie.Need-returns-3
 unfolding badShift
 returns-3 c = in-three _ _ _ _ _ _ (c .if3 .taken) (c .before .bad-pair .ensures)
 
--- src/ranges.rt:115:9
 returns-4 : tie.Need-returns-4
 unfolding badShift
 returns-4 c = in-other _ _ _ _ _ _ (c .before .before .before .before .if1 .left) (c .before .before .before .if2 .left) (c .before .if3 .left) (taken _ _ _ (c .before .before .bad-pair .ensures) (c .if4 .taken))
 
--- src/ranges.rt:117:5
 bad-pair-requires-2 : tie.Need-bad-pair-requires-2
 bad-pair-requires-2 c κs = search needs
 
--- src/ranges.rt:100:1
 returns-5 : tie.Need-returns-5
 unfolding badShift
 returns-5 c = in-other _ _ _ _ _ _ (c .before .before .before .before .before .if1 .left) (c .before .before .before .before .if2 .left) (c .before .before .if3 .left) (passed _ _ _ _ (c .before .before .before .bad-pair .ensures) (c .before .if4 .left) (c .bad-pair2 .ensures))
