@@ -1,0 +1,2 @@
+-- The starred cases of document 01 hold of the calls.
+pub mod Calls

@@ -1,0 +1,1 @@
+// No code: the starred cases of document 01, as replies of the calls.
