@@ -1,6 +1,6 @@
 //! What the engine must answer on its worked matrices, found another way: rows as vectors of bools, the dependent set by solving for the
 //! last row in the rows before it, the reduced form by swaps. Its output is stored as crates/matrices/stdout.
-//! rustc -O -o /tmp/engine_vectors tests/engine_vectors/main.rs && /tmp/engine_vectors > crates/matrices/stdout
+//! `tests/engine_vectors/run` compiles it and compares what it writes with crates/matrices/stdout.
 
 const WORDS: usize = 10101;
 const BAD: u64 = u64::MAX;
