@@ -48,16 +48,9 @@ fn short(x: &mut Trial, by: usize) {
     x.work_room = x.work_room.saturating_sub(by);
 }
 
-const TAUSWORTHE: &[Fault] = &[
-    fault(3, |x| x.fields.k = 0),
-    fault(3, |x| x.fields.k = 481),
-    fault(3, |x| x.fields.k = 65_535),
-    fault(5, |x| x.fields.nu = 0),
-    fault(6, |x| x.fields.coefficients[1] |= 128),
-    fault(6, |x| x.fields.coefficients[59] |= 1),
-    fault(6, |x| x.fields.r = 1),
+/// Fields that only kinds 3 and 4 have, set in kinds 1 and 2.
+const FOREIGN_TWIST: &[Fault] = &[
     fault(6, |x| x.fields.m = 256),
-    fault(6, |x| x.fields.w = 1),
     fault(6, |x| x.fields.p = 1),
     fault(6, |x| x.fields.a = 1 << 31),
     fault(6, |x| x.fields.b = 1),
@@ -66,6 +59,17 @@ const TAUSWORTHE: &[Fault] = &[
     fault(6, |x| x.fields.s = 1),
     fault(6, |x| x.fields.t = 1),
     fault(6, |x| x.fields.v = 128),
+];
+
+const TAUSWORTHE: &[Fault] = &[
+    fault(3, |x| x.fields.k = 0),
+    fault(3, |x| x.fields.k = 481),
+    fault(3, |x| x.fields.k = 65_535),
+    fault(5, |x| x.fields.nu = 0),
+    fault(6, |x| x.fields.coefficients[1] |= 128),
+    fault(6, |x| x.fields.coefficients[59] |= 1),
+    fault(6, |x| x.fields.r = 1),
+    fault(6, |x| x.fields.w = 1),
 ];
 
 const GFSR: &[Fault] = &[
@@ -80,15 +84,6 @@ const GFSR: &[Fault] = &[
     fault(6, |x| x.fields.coefficients[59] |= 1),
     fault(6, |x| x.fields.k = 1),
     fault(6, |x| x.fields.nu = 1),
-    fault(6, |x| x.fields.m = 256),
-    fault(6, |x| x.fields.p = 1),
-    fault(6, |x| x.fields.a = 1 << 31),
-    fault(6, |x| x.fields.b = 1),
-    fault(6, |x| x.fields.c = 1),
-    fault(6, |x| x.fields.u = 1),
-    fault(6, |x| x.fields.s = 1),
-    fault(6, |x| x.fields.t = 1),
-    fault(6, |x| x.fields.v = 128),
 ];
 
 /// Faults of kinds 3 and 4.
@@ -137,8 +132,8 @@ fn spoilt_kinds() -> [(Fields, Vec<&'static [Fault]>); 4] {
     let twisted = Fields { kind: 3, ..words };
     let twister = Fields { kind: 4, p: 1, u: 3, v: 2, ..words };
     [
-        (tausworthe, vec![TAUSWORTHE, COMMON]),
-        (gfsr, vec![GFSR, COMMON]),
+        (tausworthe, vec![TAUSWORTHE, FOREIGN_TWIST, COMMON]),
+        (gfsr, vec![GFSR, FOREIGN_TWIST, COMMON]),
         (twisted, vec![TWISTED, ONLY_KIND_3, COMMON]),
         (twister, vec![TWISTED, ONLY_KIND_4, COMMON]),
     ]
