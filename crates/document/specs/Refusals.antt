@@ -123,14 +123,12 @@ readCases bs =
 abbrev pub writeCases : Fields → ℕ → List Case
 writeCases g room = fieldCases g ++ ((11 if ltb room (lengthOf (g .kind))) ∷ [])
 
--- t outputs from a start state of 8 words into a buffer of `room` numbers
+-- t outputs from a start state of 8 words into a buffer of `room` numbers: the rows behind those of the fields, for k state bits, and all of them
+abbrev pub runCases : ℕ → ℕ → List ℕ → ℕ → List Case
+runCases k t state room = (7 if outside 1 k t) ∷ (9 if any (64 * rowWords) (λ i. not (ltb i k) && bitsOf state i)) ∷ (11 if ltb room t) ∷ []
+
 abbrev pub outputsCases : Fields → ℕ → List ℕ → ℕ → List Case
-outputsCases g t state room =
-    fieldCases g
-    ++ ((7 if outside 1 (size g) t)
-    ∷ (9 if any (64 * rowWords) (λ i. not (ltb i (size g)) && bitsOf state i))
-    ∷ (11 if ltb room t)
-    ∷ [])
+outputsCases g t state room = fieldCases g ++ runCases (size g) t state room
 
 -- the question (t, l), with a work buffer of `room` words
 abbrev pub questionCases : Fields → ℕ → ℕ → ℕ → List Case

@@ -18,10 +18,10 @@ use borrow.Author.Tests.{ltb-false}
 use Rattle.document.specs.declared.Fields.{Fields}
 use Rattle.document.specs.Limits.{rowWords}
 use Rattle.document.specs.Generator.{size}
-use Rattle.document.specs.Refusals.{outside, any, lowest, fieldCases, fieldRefusal, outputsRefusal}
+use Rattle.document.specs.Refusals.{outside, any, lowest, fieldCases, fieldRefusal, outputsRefusal, runCases}
 use Rattle.document.specs.Lowest.{first-of, then-of, field-rises}
 use Rattle.document.specs.Ranges.{Accepted, passed}
-use Rattle.outputs.specs.Promises.{runCases, RanAs}
+use Rattle.outputs.specs.Promises.{RanAs}
 use Rattle.document.specs.Theorems.{ranges}
 use Rattle.running.specs.declared.Prepared.{Prepared}
 use Rattle.running.specs.Prepared.{PreparedFor, machineOf}
