@@ -163,14 +163,22 @@ linear_⊕ g h l r s t = rw (l s t, r s t) (⊕_swap (g s) (g t) (h s) (h t))
 abbrev pub Found : {k : ℕ} → (Bits k → Bool) → Type 0
 Found {k} P = ((s : Bits k) × (P s ≡ true)) ⊎ ((s : Bits k) → P s ≡ false)
 
+of_empty : (P : Bits zero → Bool) → P [] ≡ false → (s : Bits zero) → P s ≡ false
+of_empty P e [] = e
+
+of_halves : {k : ℕ} (P : Bits (suc k) → Bool) → ((s : Bits k) → P (false ∷ s) ≡ false) → ((s : Bits k) → P (true ∷ s) ≡ false) → (s : Bits (suc k))
+    → P s ≡ false
+of_halves P h g (false ∷ s) = h s
+of_halves P h g (true ∷ s) = g s
+
 find_nil : (P : Bits zero → Bool) (b : Bool) → P [] ≡ b → Found P
 find_nil P true e = inl ([], e)
-find_nil P false e = inr (λ s. elim s [ [] ↦ e ])
+find_nil P false e = inr (of_empty P e)
 
 find_cons : {k : ℕ} (P : Bits (suc k) → Bool) → Found (λ s. P (false ∷ s)) → Found (λ s. P (true ∷ s)) → Found P
 find_cons P (inl (s, e)) d = inl (false ∷ s, e)
 find_cons P (inr h) (inl (s, e)) = inl (true ∷ s, e)
-find_cons P (inr h) (inr g) = inr (λ s. elim s [ false ∷ s ↦ h s | true ∷ s ↦ g s ])
+find_cons P (inr h) (inr g) = inr (of_halves P h g)
 
 pub find : {k : ℕ} (P : Bits k → Bool) → Found P
 find {k = zero} P = find_nil P (P []) refl
