@@ -1,4 +1,6 @@
 // What a call asks of its arguments beside the fields: a dimension, a resolution, a start state, room in a buffer; and k, of the fields alone.
+#![tactic(auto)]
+
 mod asked;
 mod refusals;
 mod sizes;

@@ -9,7 +9,7 @@ use fields::field_refusal;
 
 // The state bits of a generator; a refusal is a number above 0, with k = 0.
 #[repr(C)]
-#[derive(Drop)]
+#[derive(Clone, Copy)]
 pub struct SizeReply {
     pub refusal: u32,
     pub k: usize,

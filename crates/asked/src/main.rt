@@ -1,6 +1,8 @@
 // Asks the generators on standard input and prints the replies, to be compared with the second program's.
 // A record is the length of a description, the description padded to 65 bytes, and what is asked: every question, the report,
 // a question with a work buffer one word short, or the question (0, 0).
+#![tactic(auto)]
+
 ghost use Rattle.std.specs.Prelude.{◌≤◌, length};
 
 use document::{Dimension, Fields, MOST_BITS, MOST_OUTPUT, ROW_WORDS, Resolution, WORK_WORDS};

@@ -1,5 +1,7 @@
 // The reduced basis of (t, l): its check call, its rows at the front of a lent buffer, and that
 // front part itself.
+#![tactic(auto)]
+
 ghost use Rattle.std.specs.Prelude.{◌≡◌, ◌+◌, ◌*◌, ◌≤◌, length};
 ghost use Rattle.document.specs.Limits.{most_bits, work_words};
 ghost use Rattle.document.specs.Refusals.{basis_refusal};
@@ -12,7 +14,7 @@ use running::Prepared;
 
 // How many words of the lent buffer are the basis; a refusal is a number above 0, with none.
 #[repr(C)]
-#[derive(Drop)]
+#[derive(Clone, Copy)]
 pub struct BasisReply {
     pub refusal: u32,
     pub words: usize,

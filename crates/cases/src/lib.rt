@@ -1,1 +1,2 @@
 // No code: what the first of several cases is stands in specs/.
+#![tactic(auto)]

@@ -1,5 +1,7 @@
 // The host's boundary: every call of document 01 for C, Rust and Python. Lent slices pass as a pointer and a length, replies by value.
 // Each function promises what the call that it hands on to promises, and asks nothing.
+#![tactic(auto)]
+
 ghost use Rattle.std.specs.Prelude.{◌≡◌};
 ghost use Rattle.description.specs.Promises.{ReadAs, WrittenAs};
 ghost use Rattle.outputs.specs.Promises.{RanAs};
@@ -19,7 +21,7 @@ use value::Valued;
 
 // A start state, or a set: bit i is worth 2^(i mod 64) in word i div 64.
 #[repr(C)]
-#[derive(Drop)]
+#[derive(Clone, Copy)]
 pub struct Words {
     pub words: [u64; ROW_WORDS],
 }

@@ -1,4 +1,6 @@
 // Descriptions: bytes to fields, and fields to bytes.
+#![tactic(auto)]
+
 mod numbers;
 mod reading;
 mod writing;

@@ -10,7 +10,7 @@ use fields::{outside, range_refusal};
 
 // The answer of a reading: 0 and the fields, or a refusal and no fields.
 #[repr(C)]
-#[derive(Drop)]
+#[derive(Clone, Copy)]
 pub struct Reading {
     pub refusal: u32,
     pub fields: Fields,

@@ -1,4 +1,5 @@
 // What document 01 names: the limits, and the fields of a description. Its sentences stand in specs/, a file for each heading.
+#![tactic(auto)]
 
 // The most state bits of a generator, and the words of 64 bits that hold them.
 pub const MOST_BITS: usize = 480;
@@ -15,15 +16,15 @@ pub const MOST_OUTPUT: usize = 32;
 pub const COEFFICIENT_BYTES: usize = 60;
 
 // A dimension t and a resolution l: two sorts of count, so that (t, l) never turns into (l, t).
-#[derive(Drop)]
+#[derive(Clone, Copy)]
 pub struct Dimension(pub usize);
 
-#[derive(Drop)]
+#[derive(Clone, Copy)]
 pub struct Resolution(pub usize);
 
 // The kind and the body's fields of a description; those of other kinds are zero.
 #[repr(C)]
-#[derive(Drop)]
+#[derive(Clone, Copy)]
 pub struct Fields {
     pub kind: u8,
     // Kind 1: state bits and steps between outputs.

@@ -1,5 +1,7 @@
 // Rows of bits in words of 64, and elimination over them. Row p of a buffer begins at its word
 // p * stride; bit i of a row is worth 2^(i mod 64) in its word i div 64.
+#![tactic(auto)]
+
 ghost use Rattle.std.specs.Prelude.{◌≡◌, ℕ, ◌+◌, ◌*◌, ◌/◌, ◌<◌, ◌≤◌, ◌^◌, length, get_or};
 ghost use Rattle.digits.specs.Def.{bits_from};
 ghost use Rattle.span.specs.Def.{Zero, Leading, Slotted};
@@ -119,7 +121,7 @@ pub fn take_row(
 }
 
 // What may be missing.
-#[derive(Drop)]
+#[derive(Clone, Copy)]
 pub enum Found {
     At(usize),
     Nothing,

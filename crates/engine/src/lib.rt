@@ -1,5 +1,7 @@
 // The elimination behind a C boundary, for bench/ and tests. Each function tests its sizes; with
 // bad ones it answers 2^64 - 1 and leaves memory as it was.
+#![tactic(auto)]
+
 ghost use Rattle.std.specs.Prelude.{◌≡◌, ◌≤◌, length};
 ghost use Rattle.engine.specs.Answers.{Tells, Fits, Sized, Roomy, number_of, Eliminates, FirstSets, Bases};
 

@@ -1,4 +1,6 @@
 // The check that every call makes first: the lowest refusal number that the fields of a generator deserve.
+#![tactic(auto)]
+
 mod coefficients;
 mod own;
 mod ranges;

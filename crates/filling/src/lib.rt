@@ -1,4 +1,6 @@
 // Rows of output bits, made one from another in a lent buffer.
+#![tactic(auto)]
+
 ghost use Rattle.std.specs.Prelude.{◌≡◌, ℕ, ◌+◌, ◌*◌, ◌<◌, ◌≤◌, length, get_or};
 ghost use Rattle.digits.specs.Def.{bits_of};
 ghost use Rattle.document.specs.Limits.{row_words};

@@ -1,6 +1,8 @@
 // Calls `basis::basis` for the generators on standard input, and prints the part that it hands back and then the whole buffer, to be
 // compared with the second program's. A record is the length of a description, the description padded to 65 bytes, t in two bytes, l,
 // and how much of the buffer is lent: all of it, as much as a work buffer, or one word less.
+#![tactic(auto)]
+
 ghost use Rattle.std.specs.Prelude.{◌≤◌, ◌<◌, length};
 
 use document::{Dimension, Fields, ROW_WORDS, Resolution, WORK_WORDS};

@@ -1,4 +1,6 @@
 // The listing program: one description from standard input, its report or `refused N` to standard output.
+#![tactic(auto)]
+
 use listing_text::MOST_TEXT;
 
 // One byte more than the longest description, so that one that is too long is seen.

@@ -1,4 +1,6 @@
 // The listing of a report as text in a lent buffer.
+#![tactic(auto)]
+
 mod calling;
 mod lines;
 mod numbers;

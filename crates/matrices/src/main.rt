@@ -1,6 +1,8 @@
 // Runs the engine on worked matrices and writes what it answers: the first row that is a sum of
 // earlier ones, with the set and without, the rank, and a checksum of the reduced rows. The stored
 // stdout is that of tests/engine_vectors, which shares no code with this.
+#![tactic(auto)]
+
 ghost use Rattle.std.specs.Prelude.{◌≤◌};
 
 // A number mixed by sums and shifts (Wang's hash): no bit is a sum modulo 2 of a few others.

@@ -1,4 +1,6 @@
 // Outputs: t numbers from a start state, into the front of a lent buffer.
+#![tactic(auto)]
+
 ghost use Rattle.std.specs.Prelude.{◌≡◌, not, ◌&&◌, ltb, length, ◌*◌, ◌≤◌, ◌<◌};
 ghost use Rattle.digits.specs.Def.{bits_of};
 ghost use Rattle.document.specs.Limits.{row_words};

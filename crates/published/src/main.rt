@@ -1,5 +1,7 @@
 // Runs the generators on standard input and prints their outputs, to be compared with the second program's.
 // A record is the length of a description, the description padded to 65 bytes, how many outputs are wanted, and the start state.
+#![tactic(auto)]
+
 ghost use Rattle.std.specs.Prelude.{◌≡◌, ◌+◌, ◌≤◌, length};
 
 use document::{Dimension, ROW_WORDS};

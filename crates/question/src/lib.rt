@@ -1,4 +1,6 @@
 // The question (t, l): is it yes, or which output bits always sum to zero?
+#![tactic(auto)]
+
 ghost use Rattle.std.specs.Prelude.{◌≡◌, ◌+◌, ◌*◌, ◌<◌, ◌≤◌, length};
 ghost use Rattle.document.specs.Limits.{row_words, most_bits, most_output, work_words};
 ghost use Rattle.document.specs.Refusals.{question_refusal};
@@ -15,7 +17,7 @@ use running::Prepared;
 // The answer to a question: yes with d = 0 and the empty set, or no with the first set, which ends
 // at d. A refusal is a number above 0, with all else 0.
 #[repr(C)]
-#[derive(Drop)]
+#[derive(Clone, Copy)]
 pub struct Reply {
     pub refusal: u32,
     pub yes: bool,

@@ -1,4 +1,6 @@
 // Reduced row echelon form in place, and the rows moved to the front of their buffer.
+#![tactic(auto)]
+
 ghost use Rattle.std.specs.Prelude.{◌≡◌, ℕ, ◌+◌, ◌*◌, ◌/◌, ◌<◌, ◌≤◌, length};
 ghost use Rattle.span.specs.Def.{Zero};
 ghost use Rattle.elimination.specs.Rows.{rows_of};

@@ -1,4 +1,6 @@
 // The whole report of a generator: its reply by value, and the call.
+#![tactic(auto)]
+
 mod calling;
 mod firsts;
 mod making;

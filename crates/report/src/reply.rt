@@ -6,7 +6,7 @@ use document::{MOST_BITS, MOST_OUTPUT};
 
 // Entry t - 1 of `resolutions` is l_t, entry l - 1 of `dimensions` is t_l; the sums are those of their gaps.
 #[repr(C)]
-#[derive(Drop)]
+#[derive(Clone, Copy)]
 pub struct Report {
     pub refusal: u32,
     pub resolutions: [u32; MOST_BITS],

@@ -1,4 +1,6 @@
 // Output bits as rows of state bits, one from another: the first rows from the output, the others from the move transposed.
+#![tactic(auto)]
+
 ghost use Rattle.std.specs.Prelude.{◌≡◌, ◌<◌};
 ghost use Rattle.digits.specs.Def.{Clear, bits_of};
 ghost use Rattle.running.specs.Prepared.{Ready, machine_of};

@@ -1,4 +1,6 @@
 // Generators run on states of eight words by value: a generator is prepared once, then moved and asked for its output.
+#![tactic(auto)]
+
 ghost use Rattle.std.specs.Prelude.{◌≡◌};
 ghost use Rattle.digits.specs.Def.{Same, bits_of, number_of};
 ghost use Rattle.document.specs.Ranges.{Accepted};
@@ -12,7 +14,7 @@ pub mod tausworthe;
 pub mod twister;
 
 // What a run needs, worked out once. Words are mirrored: bit j, the first being bit 0, is worth 2^j.
-#[derive(Drop)]
+#[derive(Clone, Copy)]
 pub struct Prepared {
     pub kind: u8,
     // State bits, and the bits of an output.

@@ -1,1 +1,2 @@
 // No code: the starred cases of document 01, as replies of the calls.
+#![tactic(auto)]

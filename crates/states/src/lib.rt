@@ -1,4 +1,6 @@
 // States, and rows of state bits, in words of 64 bits by value: bit i is worth 2^(i mod 64) in word i div 64.
+#![tactic(auto)]
+
 ghost use Rattle.std.specs.Prelude.{◌≡◌, ◌&&◌, ℕ, ◌+◌, ◌*◌, ◌<◌, ◌≤◌, ◌^◌};
 ghost use Rattle.theory.specs.Def.{◌⊕◌, xorsum};
 ghost use Rattle.digits.specs.Def.{digit, bits_of, Same};

@@ -1,5 +1,7 @@
 // The tables of a report, from the first dependent bits: for each dimension the largest resolution that gets a yes, for each
 // resolution the largest dimension, and the sums of what they lack. Nothing here knows of generators.
+#![tactic(auto)]
+
 ghost use Rattle.std.specs.Prelude.{◌≡◌, ℕ, ◌+◌, ◌-◌, ◌/◌, ◌<◌, ◌≤◌, min, get_or};
 ghost use Rattle.document.specs.Limits.{most_bits, most_output};
 ghost use Rattle.document.specs.Report.{total};

@@ -1,1 +1,2 @@
 // No code: the theory stands in specs/.
+#![tactic(auto)]

@@ -1,4 +1,6 @@
 // Value: the f64 Y / 2^L, by one exact conversion and one exact division.
+#![tactic(auto)]
+
 ghost use Rattle.std.specs.Prelude.{◌≡◌, false, ℕ, ◌+◌, ◌^◌, ◌≤◌, ◌<◌};
 ghost use Rattle.std.specs.Float.{binary64};
 ghost use Rattle.std.specs.Float.Ieee.{of_bits};
@@ -13,7 +15,7 @@ use fields::outside;
 
 // The answer: 0 and the value, or a refusal and zero.
 #[repr(C)]
-#[derive(Drop)]
+#[derive(Clone, Copy)]
 pub struct Valued {
     pub refusal: u32,
     pub value: f64,

@@ -1,0 +1,13 @@
+use Rattle.document.specs.Limits.{row_words}
+use Rattle.states.proofs.StateLaws.{Adding, adding_start, adding_step, adding_end}
+use mathlib.Core.Path.{◌≡◌, refl}
+use Prim.Native.Nat.{◌≤◌, ◌-◌}
+use native.Mathlib.Omega.{arith}
+use borrow.Author.Rules.{rules}
+use Rattle.states.proofs.added.Given as goal
+
+abbrev pub invariant-loop-i : goal.invariant-loop-i
+invariant-loop-i l = (l.i ≤ row_words) × Adding row_words l.s l.t l.r l.i
+
+abbrev pub decreases-loop-i : goal.decreases-loop-i
+decreases-loop-i l = row_words - l.i

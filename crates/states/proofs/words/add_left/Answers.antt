@@ -1,0 +1,6 @@
+use Rattle.states.proofs.WordLaws.{add_left_is}
+use borrow.Author.Rules.{rules}
+use Rattle.states.proofs.words.add_left.Goals as goal
+
+pub returns : goal.returns
+returns c = add_left_is _ _ _ _ c.requires.2
