@@ -30,9 +30,9 @@ field_value x t h =
     subst (λ (b : Bool). HasValue (cond b (cond (eqb t 0) (inf false) nan) (odd 53 false (2 ^ 52 + t) x 1074)) false ((2 ^ 52 + t) * 2 ^ x) (2 ^ 1074))
     (sym (ne_eqb (suc x) 2047 (λ e. omega arith))) (odd_sign 53 false (2 ^ 52 + t) x 1074)
 
-pub of_fields : (x t : ℕ) → x < 2047 → t < 2 ^ 52 → of_bits binary64 (x * 2 ^ 52 + t) ≡ of_fields binary64 false x t
+pub fields_of_bits : (x t : ℕ) → x < 2047 → t < 2 ^ 52 → of_bits binary64 (x * 2 ^ 52 + t) ≡ of_fields binary64 false x t
 unfolding of_bits
-of_fields x t h k =
+fields_of_bits x t h k =
     let b : ℕ = x * 2 ^ 52 + t in
     let m : b % 2 ^ 63 ≡ b = mod-eq_of_lt (omega arith) in
     ap (λ (s : Bool). of_fields binary64 s (b % 2 ^ 63 / 2 ^ 52) (b % 2 ^ 52)) (lt-leb (2 ^ 63) b (omega arith))
@@ -76,4 +76,4 @@ module _ (y l h : ℕ) (ll : l ≤ 33) (hh : h < 53) (a : 2 ^ h ≤ y) (b : y < 
       let w : HasValue (of_fields binary64 false (suc x) t) false y (2 ^ l) =
       rescale (of_fields binary64 false (suc x) t) false ((2 ^ 52 + t) * 2 ^ x) (2 ^ 1074) y (2 ^ l) (pow_pos 1074)
       (ap (λ (z : ℕ). z * 2 ^ x * 2 ^ l) lead ∙ regroup y (2 ^ (52 - h)) (2 ^ x) (2 ^ l) (2 ^ 1074) powers) v in
-      subst (λ (f : Float). HasValue f false y (2 ^ l)) (sym (of_fields (1023 + h - l) t (omega arith) small ∙ ap (λ (z : ℕ). of_fields binary64 false z t) e)) w
+      subst (λ (f : Float). HasValue f false y (2 ^ l)) (sym (fields_of_bits (1023 + h - l) t (omega arith) small ∙ ap (λ (z : ℕ). of_fields binary64 false z t) e)) w

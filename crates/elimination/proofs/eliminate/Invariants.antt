@@ -1,0 +1,16 @@
+-- `elimination::eliminate` meets its contract. The loop's invariant: the rows below r have leading bits of their own.
+use mathlib.Core.Path.{◌≡◌, refl}
+use Prim.Native.Nat.{zero, ◌+◌, ◌*◌, ◌≤◌, ◌-◌}
+use native.Mathlib.Omega.{arith}
+use lib.ListN.{length}
+use borrow.Author.Rules.{rules}
+use Rattle.elimination.specs.Rows.{SlotsKept, Eliminating}
+use Rattle.elimination.proofs.Words.{row_end}
+use Rattle.elimination.proofs.Take.{eliminating_start, eliminating_more, eliminating_last, slots_cleared, slots_again, finish, not-true, not-false}
+use Rattle.elimination.proofs.eliminate.Given as goal
+
+abbrev pub invariant-loop-r : goal.invariant-loop-r
+invariant-loop-r l = (l.r ≤ l.rows) × SlotsKept (64 * l.lead) l.initial.slots l.slots × Eliminating l.initial.buf l.r l.r l.stride l.width l.lead l.buf l.slots
+
+abbrev pub decreases-loop-r : goal.decreases-loop-r
+decreases-loop-r l = l.rows - l.r

@@ -1,0 +1,18 @@
+-- `elimination::leading_bit` meets its contract. The loop's invariant: the words below k are zero.
+use mathlib.Core.Path.{◌≡◌}
+use Prim.Native.Nat.{ℕ, ◌+◌, ◌*◌, ◌≤◌, ◌-◌}
+use native.Mathlib.Omega.{arith}
+use lib.ListN.{get_or}
+use borrow.Author.Rules.{rules}
+use lib.Count.{trailing_le}
+use Rattle.digits.specs.Def.{bits_from}
+use Rattle.digits.specs.Lowest.{lowest-digit}
+use Rattle.span.specs.Def.{Zero}
+use Rattle.elimination.proofs.RowBits.{zero_more, leading_found, leading_none}
+use Rattle.elimination.proofs.leading_bit.Given as goal
+
+abbrev pub invariant-loop-k : goal.invariant-loop-k
+invariant-loop-k l = (l.k ≤ l.lead) × Zero (64 * l.k) (bits_from l.buf l.at)
+
+abbrev pub decreases-loop-k : goal.decreases-loop-k
+decreases-loop-k l = l.lead - l.k

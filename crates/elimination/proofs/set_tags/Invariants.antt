@@ -1,0 +1,16 @@
+-- `elimination::set_tags` meets its contract. The loop's invariant: the rows below p carry their sets.
+use mathlib.Core.Path.{◌≡◌}
+use Prim.Native.Nat.{◌+◌, ◌*◌, ◌≤◌, ◌-◌}
+use native.Mathlib.Omega.{arith}
+use lib.ListN.{length}
+use borrow.Author.Rules.{rules}
+use Rattle.elimination.specs.Rows.{Tagging}
+use Rattle.elimination.proofs.Words.{row_end}
+use Rattle.elimination.proofs.Tags.{tagging_none, tagging_more}
+use Rattle.elimination.proofs.set_tags.Given as goal
+
+abbrev pub invariant-loop-p : goal.invariant-loop-p
+invariant-loop-p l = (l.p ≤ l.rows) × Tagging l.initial.buf l.p l.stride l.width l.lead l.buf
+
+abbrev pub decreases-loop-p : goal.decreases-loop-p
+decreases-loop-p l = l.rows - l.p

@@ -1,0 +1,6 @@
+use Rattle.running.proofs.KindTwo.{moved2_is}
+use borrow.Author.Rules.{rules}
+use Rattle.running.proofs.gfsr.moved.Goals as goal
+
+pub returns : goal.returns
+returns c = moved2_is c.args.p c.requires _ _ _ c.next-x.ensures c.shifted_up.ensures

@@ -1,0 +1,13 @@
+use Rattle.document.specs.Limits.{row_words, coefficient_bytes}
+use Rattle.running.proofs.Masks.{Laying, laying_start, laying_step, laying_end}
+use mathlib.Core.Path.{◌≡◌}
+use Prim.Native.Nat.{◌≤◌, ◌-◌}
+use native.Mathlib.Omega.{arith}
+use borrow.Author.Rules.{rules}
+use Rattle.running.proofs.preparing.coefficient_mask.Given as goal
+
+abbrev pub invariant-loop-j : goal.invariant-loop-j
+invariant-loop-j l = (l.j ≤ coefficient_bytes) × Laying l.c l.r l.j
+
+abbrev pub decreases-loop-j : goal.decreases-loop-j
+decreases-loop-j l = coefficient_bytes - l.j

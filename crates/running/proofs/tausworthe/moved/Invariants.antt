@@ -1,0 +1,14 @@
+use Rattle.kinds.specs.Generator.{tausworthe}
+use Rattle.running.specs.Prepared.{Stepped}
+use Rattle.running.proofs.KindOne.{stepped-none, stepped_more}
+use mathlib.Core.Path.{◌≡◌}
+use Prim.Native.Nat.{◌≤◌, ◌-◌}
+use native.Mathlib.Omega.{arith}
+use borrow.Author.Rules.{rules}
+use Rattle.running.proofs.tausworthe.moved.Given as goal
+
+abbrev pub invariant-loop-i : goal.invariant-loop-i
+invariant-loop-i l = (l.i ≤ l.nu) × Stepped l.k l.mask l.i l.initial.r l.r
+
+abbrev pub decreases-loop-i : goal.decreases-loop-i
+decreases-loop-i l = l.nu - l.i

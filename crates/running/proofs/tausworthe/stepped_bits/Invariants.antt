@@ -1,0 +1,13 @@
+use Rattle.kinds.specs.Generator.{tausworthe}
+use Rattle.running.proofs.KindOne.{Put, put_start, put_more, put_small}
+use mathlib.Core.Path.{◌≡◌}
+use Prim.Native.Nat.{◌≤◌, ◌-◌}
+use native.Mathlib.Omega.{arith}
+use borrow.Author.Rules.{rules}
+use Rattle.running.proofs.tausworthe.stepped_bits.Given as goal
+
+abbrev pub invariant-loop-j : goal.invariant-loop-j
+invariant-loop-j l = (l.j ≤ l.bits) × Put l.k l.mask l.initial.t l.t l.r l.j
+
+abbrev pub decreases-loop-j : goal.decreases-loop-j
+decreases-loop-j l = l.bits - l.j

@@ -1,0 +1,17 @@
+-- `tables::dimension_sum` meets its contract. The loop's invariant: the sum is that of the gaps of the resolutions 1 to i, each at most k.
+use Rattle.tables.proofs.Laws.{more, lacks}
+use Prim.Native.Nat.{◌+◌, ◌*◌, ◌/◌, ◌≤◌, ◌-◌}
+use native.Mathlib.Nat.{div-le_self}
+use Rattle.document.specs.Limits.{most_bits}
+use Rattle.document.specs.Report.{total}
+use mathlib.Core.Path.{◌≡◌, ap, ◌∙◌}
+use native.Mathlib.Omega.{arith}
+use lib.ListN.{get_or}
+use borrow.Author.Rules.{rules}
+use Rattle.tables.proofs.dimension_sum.Given as goal
+
+abbrev pub invariant-loop-i : goal.invariant-loop-i
+invariant-loop-i l = (l.i ≤ l.bits) × (l.sum ≡ total l.i (λ t. l.k / t - get_or l.table (t - 1) 0)) × (l.sum ≤ l.i * most_bits)
+
+abbrev pub decreases-loop-i : goal.decreases-loop-i
+decreases-loop-i l = l.bits - l.i
