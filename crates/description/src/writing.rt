@@ -137,6 +137,14 @@ fn gfsr(g: Fields) -> [u8; 65]
     long(first, coefficients)
 }
 
+// Puts bytes at the front of a buffer that has room for them.
+fn put_front(bytes: &[u8], out: &mut [u8])
+    requires { length bytes.now ≤ length out.old }
+    ensures { out.new ≡ bytes.now ++ drop (length bytes.now) out.old }
+{
+    out[..bytes.len()].copy_from_slice(bytes);
+}
+
 // Puts the description of an accepted generator.
 fn put(g: Fields, out: &mut [u8])
     requires { (1 ≤ g.kind) × (g.kind ≤ 4) × (length_of g.kind ≤ length out.old) }
@@ -145,21 +153,21 @@ fn put(g: Fields, out: &mut [u8])
     let kind = g.kind;
     if kind == 1 {
         let d = tausworthe(g);
-        bytes::copy(&d, out);
+        put_front(&d, out);
         return;
     }
     if kind == 2 {
         let d = gfsr(g);
-        bytes::copy(&d, out);
+        put_front(&d, out);
         return;
     }
     if kind == 3 {
         let d = twisted(g);
-        bytes::copy(&d, out);
+        put_front(&d, out);
         return;
     }
     let d = mersenne(g);
-    bytes::copy(&d, out);
+    put_front(&d, out);
 }
 
 // What refuses to write: the fields, then the room.

@@ -8,6 +8,7 @@ use Prim.Native.Nat.{◌+◌, ◌*◌, ◌≤◌, ◌<◌, ◌-◌}
 use native.Mathlib.Omega.{arith}
 use borrow.Author.Rules.{rules}
 use Rattle.running.proofs.gfsr.next.Goals as goal
+use Rattle.running.proofs.gfsr.next.Goals.{then-mask-i-eq1, else-mask-i-eq1}
 
 pub loop-i-init : goal.loop-i-init
 loop-i-init c = (omega arith, chosen_none _ _ _)
@@ -48,10 +49,10 @@ pub loop-i-preserved : goal.loop-i-preserved
 loop-i-preserved c =
     let x = c.loop-i.invariant.1 in (
       omega arith,
-      ⊎_elim
-          (λ v. rw v.2 (chosen_one _ _ _ _ _ x _ v.0.taken v.1.ensures))
-          (λ v. rw v.1 (chosen_not _ _ _ _ _ x v.0.left))
-          c.if-mask-i-eq1.branch,
+      elim c.if-mask-i-eq1.branch [
+        then-mask-i-eq1 w ↦ rw w.x-is (chosen_one _ _ _ _ _ x _ w.if-mask-i-eq1.true w.word_at-x.ensures)
+        | else-mask-i-eq1 w ↦ rw w.x-is (chosen_not _ _ _ _ _ x w.if-mask-i-eq1.false)
+      ],
     )
 
 pub returns : goal.returns

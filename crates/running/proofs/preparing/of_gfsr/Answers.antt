@@ -18,7 +18,7 @@ returns c =
         k = ap₂ (λ a b. a * b) c.long_count-r.ensures c.count-w.ensures;
         bits = c.count.ensures;
         r = c.long_count-r.ensures;
-        c = c.count-w.ensures;
+        w = c.count-w.ensures;
         mask = c.coefficient_mask-mask.ensures;
       },
     )

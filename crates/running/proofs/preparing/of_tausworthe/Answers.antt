@@ -11,7 +11,7 @@ returns c =
     (
       refl,
       record {
-        c = c.long_count-k.ensures;
+        k = c.long_count-k.ensures;
         bits = c.count.ensures;
         nu = c.count-2.ensures;
         mask = λ i. c.tap_mask-mask.ensures i ∙ ap₂ (λ n a. taps n a i) c.long_count-k.ensures (fun_ext c.coefficient_mask.ensures);

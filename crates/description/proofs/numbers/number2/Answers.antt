@@ -1,0 +1,7 @@
+use Rattle.description.proofs.Laws.{two_bytes}
+use Prim.Native.Nat.{◌-◌}
+use borrow.Author.Rules.{rules}
+use Rattle.description.proofs.numbers.number2.Goals as goal
+
+pub returns : goal.returns
+returns c = two_bytes _ c.args.at _ _ c.wide-high.ensures.0 c.wide-low.ensures.0

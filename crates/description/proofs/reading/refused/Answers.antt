@@ -1,0 +1,6 @@
+use Prim.Native.Nat.{◌-◌}
+use borrow.Author.Rules.{rules}
+use Rattle.description.proofs.reading.refused.Goals as goal
+
+pub returns : goal.returns
+returns c = λ i. record { refusal = c.args.refusal; fields = c.no_fields-fields.ensures i }

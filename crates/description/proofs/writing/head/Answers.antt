@@ -1,0 +1,9 @@
+use mathlib.Core.List.{[], ◌∷◌}
+use Rattle.document.specs.Description.{bytes}
+use Prim.Native.Nat.{◌-◌}
+use borrow.Author.Rules.{rules}
+use Rattle.description.proofs.writing.head.Goals as goal
+
+pub returns : goal.returns
+unfolding bytes
+returns c = λ i. c.args.kind ∷ c.high.ensures i ∷ c.low.ensures i ∷ c.byte.ensures i ∷ c.byte-2.ensures i ∷ []

@@ -1,0 +1,59 @@
+use mathlib.Core.Path.{◌≡◌}
+use Prim.Native.Nat.{◌≤◌, ◌<◌, ◌-◌}
+use native.Mathlib.Omega.{arith}
+use borrow.Author.Rules.{rules}
+use mathlib.Core.Logic.{⊎_elim}
+use Rattle.elimination.specs.declared.Found.TheVariants.{At}
+use Rattle.reduction.specs.Columns.{Holder, ReducedForm}
+use Rattle.reduction.proofs.Columns.{form_start, form_pass, form_turn}
+use Rattle.reduction.proofs.reduce.Goals as goal
+
+pub loop-c-init : goal.loop-c-init
+loop-c-init c = (omega arith, form_start _ _ _ _)
+
+pub find_row-requires : goal.find_row-requires
+find_row-requires c =
+    let l = c.loop-c in
+    (l.invariant.1.rows.few, omega (arith, c.requires.1, l.invariant.1.kept.long), omega (arith, c.loop-c-test.true, c.requires))
+
+pub take_pivot-requires : goal.take_pivot-requires
+take_pivot-requires c =
+    let held : (c.loop-c.rank ≤ c.p-1.given.0.0)
+    × (c.p-1.given.0.0 < c.args.n) = let z : Holder _ _ _ _ _ (At c.p-1.given.0.0) = rw c.p-1.given.1 at c.find_row.ensures in
+    (z.0, z.1) in
+    let z = held in
+    let l = c.loop-c in
+    let x = l.invariant.1 in
+    let h : l.rank < c.args.n = omega (arith, z.0, z.1) in (
+      (h, z.1, c.requires.0, omega (arith, c.requires.1, x.kept.long), omega (arith, c.loop-c-test.true, c.requires)),
+      (λ i m. x.rows.rest l.rank (omega arith) h i (omega arith), λ i m. x.rows.rest _ z.0 z.1 i (omega arith)),
+    )
+
+pub overflow_add-rank : goal.overflow_add-rank
+overflow_add-rank c =
+    let held : (c.loop-c.rank ≤ c.p-1.given.0.0)
+    × (c.p-1.given.0.0 < c.args.n) = let z : Holder _ _ _ _ _ (At c.p-1.given.0.0) = rw c.p-1.given.1 at c.find_row.ensures in
+    (z.0, z.1) in
+    let z = held in omega (arith, z.0, z.1)
+
+pub loop-c-preserved : goal.loop-c-preserved
+loop-c-preserved c =
+    let l = c.loop-c in
+    let h = c.loop-c-test.true in
+    ⊎_elim
+    (λ w. (
+      omega arith,
+      rw (w.7, w.8)
+          (form_turn _ _ _ _ _ _ _ l.invariant.1 (omega (arith, h, c.requires.2)) _ (rw w.1.given.1 at c.find_row.ensures) _ w.4.ensures),
+    ))
+    (λ w. (
+      omega arith,
+      rw (w.2, w.3)
+          (form_pass _ _ _ _ _ _ _ l.invariant.1 (omega (arith, h, c.requires.2)) (rw w.1.given.1 at c.find_row.ensures)),
+    ))
+    c.match-find_row.branch
+
+pub returns : goal.returns
+returns c =
+    let eq : c.loop-c.c ≡ c.args.k = omega arith in
+    rw eq at c.loop-c.invariant.1

@@ -1,0 +1,26 @@
+-- `reduction::take_pivot` meets its contract.
+use native.Mathlib.Omega.{arith}
+use borrow.Author.Rules.{rules}
+use Rattle.elimination.proofs.Words.{row_end}
+use Rattle.reduction.proofs.Columns.{pivoted, brought_zero}
+use mathlib.Core.Path.{◌∙◌}
+use Rattle.reduction.proofs.take_pivot.Goals as goal
+
+pub bring_row-requires : goal.bring_row-requires
+bring_row-requires c =
+    let q = c.requires.0 in
+    let a = row_end c.args.r c.args.n c.args.stride c.args.width q.0 q.2 in
+    let b = row_end c.args.p c.args.n c.args.stride c.args.width q.1 q.2 in
+    ((q.2, omega (arith, q.3), omega (arith, q.3), omega (arith, q.4)), c.requires.1.1)
+
+pub clear_column-requires : goal.clear_column-requires
+clear_column-requires c =
+    let q = c.requires.0 in
+    let x = c.bring_row.ensures in (
+      (q.0, q.2, omega (arith, q.3, x.kept.long), q.4),
+      λ i h. x.here i (omega (arith, q.4)) ∙ brought_zero _ _ _ _ c.args.width _ c.requires.1.0 c.requires.1.1 i h,
+    )
+
+pub returns : goal.returns
+returns c =
+    pivoted _ _ _ _ _ _ _ _ _ c.requires.0.0 c.requires.0.2 c.requires.0.4 c.bring_row.ensures c.clear_column.ensures
