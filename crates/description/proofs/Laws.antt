@@ -44,8 +44,8 @@ pub filled_is : (l r : List ℕ) (n : ℕ) → length l ≡ n → length r ≡ n
 filled_is l r n e f h = ext_get_or 0 r l (f ∙ sym e) (λ i k. h i (omega (arith, f)))
 
 -- all of a description, and the buffer behind it
-pub put_is : (d e was now : List ℕ) (n : ℕ) → d ≡ e → length d ≡ n → now ≡ take (length d) d ++ drop (length d) was → now ≡ e ++ drop n was
-put_is d e was now n p q h = h ∙ ap₂ ◌++◌ (take_all (length d) d (omega arith) ∙ p) (ap (λ k. drop k was) q)
+pub put_is : (d e was now : List ℕ) (n : ℕ) → d ≡ e → length d ≡ n → now ≡ d ++ drop (length d) was → now ≡ e ++ drop n was
+put_is d e was now n p q h = h ∙ ap₂ ◌++◌ p (ap (λ k. drop k was) q)
 
 -- what is known where nothing refuses to write
 pub write_accepted : (g : Fields) (room : ℕ) → write_refusal g room ≡ 0 → (1 ≤ g.kind) × (g.kind ≤ 4) × (length_of g.kind ≤ room)

@@ -80,7 +80,7 @@ pub fn reduce_row(
     lead: usize,
     slots: &[usize],
 ) -> usize
-    requires lead_le_width { (lead ≤ width) × (width ≤ stride) × (r * stride + width ≤ length buf.old) × (64 * lead ≤ length slots.now) }
+    requires in_room { (lead ≤ width) × (width ≤ stride) × (r * stride + width ≤ length buf.old) × (64 * lead ≤ length slots.now) }
     requires slotted { Slotted (64 * lead) r (rows_of buf.old stride) (slot_of slots.now) }
     ensures { Reduced buf.old r stride width lead buf.new result × (result < 64 * lead → slot_of slots.now result ≡ 0) }
 {
@@ -108,7 +108,7 @@ pub fn take_row(
     lead: usize,
     slots: &mut [usize],
 ) -> bool
-    requires lead_le_width { (lead ≤ width) × (width ≤ stride) × (r * stride + width ≤ length buf.old) × (64 * lead ≤ length slots.old) × (r + 1 < 2 ^ 64) }
+    requires in_room { (lead ≤ width) × (width ≤ stride) × (r * stride + width ≤ length buf.old) × (64 * lead ≤ length slots.old) × (r + 1 < 2 ^ 64) }
     requires slotted { Slotted (64 * lead) r (rows_of buf.old stride) (slot_of slots.old) }
     ensures { Taken buf.old r stride width lead slots.old buf.new slots.new result }
 {

@@ -24,7 +24,7 @@ pub fn find_row(buf: &[u64], from: usize, n: usize, stride: usize, c: usize) -> 
 
 // Adds row r, whose words before that of the bit c are zero, into row q if that has the bit c.
 pub fn add_if(buf: &mut [u64], q: usize, r: usize, stride: usize, width: usize, c: usize)
-    requires fact { (q ≡ r → ⊥) × (width ≤ stride) × (q * stride + width ≤ length buf.old) × (r * stride + width ≤ length buf.old) × (c < 64 * width) }
+    requires in_room { (q ≡ r → ⊥) × (width ≤ stride) × (q * stride + width ≤ length buf.old) × (r * stride + width ≤ length buf.old) × (c < 64 * width) }
     requires zero { Zero (64 * (c / 64)) (rows_of buf.old stride r) }
     ensures { AddedIf buf.old q r stride width c buf.new }
 {
@@ -37,7 +37,7 @@ pub fn add_if(buf: &mut [u64], q: usize, r: usize, stride: usize, width: usize, 
 
 // Adds row r into each other row below n that has the bit c.
 pub fn clear_column(buf: &mut [u64], n: usize, r: usize, stride: usize, width: usize, c: usize)
-    requires r_lt_n { (r < n) × (width ≤ stride) × (n * stride ≤ length buf.old) × (c < 64 * width) }
+    requires in_room { (r < n) × (width ≤ stride) × (n * stride ≤ length buf.old) × (c < 64 * width) }
     requires zero { Zero (64 * (c / 64)) (rows_of buf.old stride r) }
     ensures { Column buf.old n r stride width c n buf.new }
 {
@@ -50,7 +50,7 @@ pub fn clear_column(buf: &mut [u64], n: usize, r: usize, stride: usize, width: u
 
 // Adds row p, whose words before `from` are zero, into row r, if they are two.
 pub fn bring_row(buf: &mut [u64], r: usize, p: usize, stride: usize, width: usize, from: usize)
-    requires width_le_stride { (width ≤ stride) × (r * stride + width ≤ length buf.old) × (p * stride + width ≤ length buf.old) × (from ≤ width) }
+    requires in_room { (width ≤ stride) × (r * stride + width ≤ length buf.old) × (p * stride + width ≤ length buf.old) × (from ≤ width) }
     requires zero { Zero (64 * from) (rows_of buf.old stride p) }
     ensures { Brought buf.old r p stride width buf.new }
 {
@@ -69,7 +69,7 @@ pub fn take_pivot(
     width: usize,
     c: usize,
 )
-    requires r_lt_n { (r < n) × (p < n) × (width ≤ stride) × (n * stride ≤ length buf.old) × (c < 64 * width) }
+    requires in_room { (r < n) × (p < n) × (width ≤ stride) × (n * stride ≤ length buf.old) × (c < 64 * width) }
     requires zero { Zero (64 * (c / 64)) (rows_of buf.old stride r) × Zero (64 * (c / 64)) (rows_of buf.old stride p) }
     ensures { Pivoted buf.old n r p stride width c buf.new }
 {

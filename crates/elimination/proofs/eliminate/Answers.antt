@@ -17,7 +17,7 @@ take_row-requires c =
     let x = c.loop-r.invariant.2 in
     let y = c.loop-r.invariant.1 in
     let k = c.clear_slots.ensures.kept.long in
-    record { lead_le_width = (c.requires.0, c.requires.1, omega (arith, inside, x.long), omega (arith, y.long, k), omega arith); slotted = x.rows.slotted }
+    record { in_room = (c.requires.0, c.requires.1, omega (arith, inside, x.long), omega (arith, y.long, k), omega arith); slotted = x.rows.slotted }
 
 pub returns-then-not-take_row : goal.returns-then-not-take_row
 returns-then-not-take_row c =

@@ -7,6 +7,7 @@ use Rattle.elimination.proofs.Words.{row_end}
 use Rattle.reduction.specs.Columns.{Column}
 use Rattle.reduction.proofs.Columns.{column_none, column_skip, column_add}
 use Rattle.reduction.proofs.clear_column.Goals as goal
+use Rattle.reduction.proofs.clear_column.Goals.{then-q-r, else-q-r}
 
 pub loop-q-init : goal.loop-q-init
 loop-q-init c = (search rules, column_none _ _ _ _ _ _)
@@ -14,20 +15,20 @@ loop-q-init c = (search rules, column_none _ _ _ _ _ _)
 pub add_if-requires : goal.add_if-requires
 add_if-requires c =
     let l = c.loop-q in
-    let p = c.requires.0 in
+    let p = c.requires.in_room in
     let a = row_end l.q c.args.n c.args.stride c.args.width c.loop-q-test.true p.1 in
-    let b = row_end c.args.r c.args.n c.args.stride c.args.width p.0 p.1 in (
-      (c.if-q-r.true, p.1, omega (arith, p.2, l.invariant.1.kept.long), omega (arith, p.2, l.invariant.1.kept.long), p.3),
-      λ i h. l.invariant.1.here i (omega (arith, p.3)) ∙ c.requires.1 i h,
-    )
+    let b = row_end c.args.r c.args.n c.args.stride c.args.width p.0 p.1 in record {
+      in_room = (c.if-q-r.true, p.1, omega (arith, p.2, l.invariant.1.kept.long), omega (arith, p.2, l.invariant.1.kept.long), p.3);
+      zero = λ i h. l.invariant.1.here i (omega (arith, p.3)) ∙ c.requires.zero i h;
+    }
 
 pub loop-q-preserved : goal.loop-q-preserved
 loop-q-preserved c =
     let l = c.loop-q in
-    ⊎_elim
-    (λ w. (omega arith, rw w.5 (column_add _ _ _ _ _ _ _ _ l.invariant.1 _ c.loop-q-test.true w.0.taken c.requires.0.1 c.requires.0.3 w.2.ensures)))
-    (λ w. (omega arith, rw w.1 (column_skip _ _ _ _ _ _ _ _ l.invariant.1 w.0.left)))
-    c.if-q-r.branch
+    elim c.if-q-r.branch [
+      then-q-r w ↦ (omega arith, rw w.buf-is (column_add _ _ _ _ _ _ _ _ l.invariant.1 _ c.loop-q-test.true w.if-q-r.true c.requires.in_room.1 c.requires.in_room.3 w.add_if.ensures))
+      | else-q-r w ↦ (omega arith, rw w.buf-is (column_skip _ _ _ _ _ _ _ _ l.invariant.1 w.if-q-r.false))
+    ]
 
 pub returns : goal.returns
 returns c =

@@ -7,6 +7,7 @@ use Rattle.elimination.specs.declared.Found.TheVariants.{At}
 use Rattle.reduction.specs.Columns.{Holder, ReducedForm}
 use Rattle.reduction.proofs.Columns.{form_start, form_pass, form_turn}
 use Rattle.reduction.proofs.reduce.Goals as goal
+use Rattle.reduction.proofs.reduce.Goals.{in-At, in-Nothing}
 
 pub loop-c-init : goal.loop-c-init
 loop-c-init c = (omega arith, form_start _ _ _ _)
@@ -18,40 +19,34 @@ find_row-requires c =
 
 pub take_pivot-requires : goal.take_pivot-requires
 take_pivot-requires c =
-    let held : (c.loop-c.rank ≤ c.p-1.given.0.0)
-    × (c.p-1.given.0.0 < c.args.n) = let z : Holder _ _ _ _ _ (At c.p-1.given.0.0) = rw c.p-1.given.1 at c.find_row.ensures in
-    (z.0, z.1) in
-    let z = held in
+    let z : Holder _ _ _ _ _ (At c.in-At.p) = c.in-At.ensures in
     let l = c.loop-c in
     let x = l.invariant.1 in
-    let h : l.rank < c.args.n = omega (arith, z.0, z.1) in (
-      (h, z.1, c.requires.0, omega (arith, c.requires.1, x.kept.long), omega (arith, c.loop-c-test.true, c.requires)),
-      (λ i m. x.rows.rest l.rank (omega arith) h i (omega arith), λ i m. x.rows.rest _ z.0 z.1 i (omega arith)),
-    )
+    let h : l.rank < c.args.n = omega (arith, z.0, z.1) in record {
+      in_room = (h, z.1, c.requires.0, omega (arith, c.requires.1, x.kept.long), omega (arith, c.loop-c-test.true, c.requires));
+      zero = (λ i m. x.rows.rest l.rank (omega arith) h i (omega arith), λ i m. x.rows.rest _ z.0 z.1 i (omega arith));
+    }
 
 pub overflow_add-rank : goal.overflow_add-rank
 overflow_add-rank c =
-    let held : (c.loop-c.rank ≤ c.p-1.given.0.0)
-    × (c.p-1.given.0.0 < c.args.n) = let z : Holder _ _ _ _ _ (At c.p-1.given.0.0) = rw c.p-1.given.1 at c.find_row.ensures in
-    (z.0, z.1) in
-    let z = held in omega (arith, z.0, z.1)
+    let z : Holder _ _ _ _ _ (At c.in-At.p) = c.in-At.ensures in omega (arith, z.0, z.1)
 
 pub loop-c-preserved : goal.loop-c-preserved
 loop-c-preserved c =
     let l = c.loop-c in
     let h = c.loop-c-test.true in
-    ⊎_elim
-    (λ w. (
-      omega arith,
-      rw (w.7, w.8)
-          (form_turn _ _ _ _ _ _ _ l.invariant.1 (omega (arith, h, c.requires.2)) _ (rw w.1.given.1 at c.find_row.ensures) _ w.4.ensures),
-    ))
-    (λ w. (
-      omega arith,
-      rw (w.2, w.3)
-          (form_pass _ _ _ _ _ _ _ l.invariant.1 (omega (arith, h, c.requires.2)) (rw w.1.given.1 at c.find_row.ensures)),
-    ))
-    c.match-find_row.branch
+    elim c.match-find_row.branch [
+      in-At w ↦ (
+        omega arith,
+        rw (w.buf-is, w.rank-is)
+            (form_turn _ _ _ _ _ _ _ l.invariant.1 (omega (arith, h, c.requires.2)) _ w.in-At.ensures _ w.take_pivot.ensures),
+      )
+      | in-Nothing w ↦ (
+        omega arith,
+        rw (w.buf-is, w.rank-is)
+            (form_pass _ _ _ _ _ _ _ l.invariant.1 (omega (arith, h, c.requires.2)) w.in-Nothing.ensures),
+      )
+    ]
 
 pub returns : goal.returns
 returns c =

@@ -8,19 +8,19 @@ use Rattle.reduction.proofs.take_pivot.Goals as goal
 
 pub bring_row-requires : goal.bring_row-requires
 bring_row-requires c =
-    let q = c.requires.0 in
+    let q = c.requires.in_room in
     let a = row_end c.args.r c.args.n c.args.stride c.args.width q.0 q.2 in
     let b = row_end c.args.p c.args.n c.args.stride c.args.width q.1 q.2 in
-    ((q.2, omega (arith, q.3), omega (arith, q.3), omega (arith, q.4)), c.requires.1.1)
+    record { in_room = (q.2, omega (arith, q.3), omega (arith, q.3), omega (arith, q.4)); zero = c.requires.zero.1 }
 
 pub clear_column-requires : goal.clear_column-requires
 clear_column-requires c =
-    let q = c.requires.0 in
-    let x = c.bring_row.ensures in (
-      (q.0, q.2, omega (arith, q.3, x.kept.long), q.4),
-      λ i h. x.here i (omega (arith, q.4)) ∙ brought_zero _ _ _ _ c.args.width _ c.requires.1.0 c.requires.1.1 i h,
-    )
+    let q = c.requires.in_room in
+    let x = c.bring_row.ensures in record {
+      in_room = (q.0, q.2, omega (arith, q.3, x.kept.long), q.4);
+      zero = λ i h. x.here i (omega (arith, q.4)) ∙ brought_zero _ _ _ _ c.args.width _ c.requires.zero.0 c.requires.zero.1 i h;
+    }
 
 pub returns : goal.returns
 returns c =
-    pivoted _ _ _ _ _ _ _ _ _ c.requires.0.0 c.requires.0.2 c.requires.0.4 c.bring_row.ensures c.clear_column.ensures
+    pivoted _ _ _ _ _ _ _ _ _ c.requires.in_room.0 c.requires.in_room.2 c.requires.in_room.4 c.bring_row.ensures c.clear_column.ensures

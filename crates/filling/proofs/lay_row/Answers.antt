@@ -1,0 +1,14 @@
+-- `filling::lay_row` meets its contract.
+use Rattle.filling.proofs.Turn.{laid}
+use mathlib.Core.Path.{◌≡◌, refl, sym, ap, ◌∙◌}
+use Prim.Native.Nat.{ℕ, zero, suc, ◌+◌, ◌*◌, ◌≤◌, ◌<◌, ◌-◌}
+use native.Mathlib.Omega.{arith}
+use lib.ListN.{length, get_or, set, length-set}
+use borrow.Author.Rules.{rules}
+use Rattle.filling.proofs.lay_row.Goals as goal
+
+pub next_row-row-requires : goal.next_row-row-requires
+next_row-row-requires c = ((c.requires.0.0, c.requires.0.1, c.requires.0.2, omega arith, omega (arith, c.requires.0.3)), c.requires.1)
+
+pub returns : goal.returns
+returns c = laid _ _ _ _ _ _ _ c.next_row-row.ensures c.put_row.ensures c.put_row-2.ensures

@@ -1,0 +1,10 @@
+use Rattle.rows.proofs.KindFour.{unit-word, first_word_is}
+use borrow.Author.Rules.{rules}
+use Rattle.rows.proofs.twister.first_word.Goals as goal
+
+pub un_right-x-requires : goal.un_right-x-requires
+un_right-x-requires c = let y = c.requires.0 in (y.words.narrow, y.v, (unit-word _ _ y.words.narrow c.requires.1).0)
+
+pub returns : goal.returns
+returns c =
+    first_word_is _ _ _ _ _ _ _ _ _ _ _ _ _ (unit-word _ _ c.requires.0.words.narrow c.requires.1).1 c.un_right-x.ensures c.un_left-y.ensures c.un_left.ensures c.un_right.ensures
