@@ -41,7 +41,7 @@ pub fn put_row(buf: &mut [u64], at: usize, s: [u64; ROW_WORDS])
 // which stands `off` words into its place.
 pub fn next_row(buf: &[u64], p: Prepared, l: usize, i: usize, off: usize) -> [u64; ROW_WORDS]
     requires ready { Ready p × (1 ≤ l) × (l ≤ p.bits) × (off ≤ row_words) × (i * stride ≤ length buf.now) }
-    requires stands_all { StandsAll (machine_of p) l i off buf.now }
+    requires standing { StandsAll (machine_of p) l i off buf.now }
     ensures { RowOf (machine_of p) l i (bits_of result) }
 {
     if i < l {
@@ -66,7 +66,7 @@ pub fn fill(buf: &mut [u64], p: Prepared, l: usize, n: usize)
 // it, and in the first half to be taken.
 fn lay_row(buf: &mut [u64], p: Prepared, l: usize, i: usize)
     requires ready { Ready p × (1 ≤ l) × (l ≤ p.bits) × (i * stride + stride ≤ length buf.old) }
-    requires stands_all { StandsAll (machine_of p) l i row_words buf.old }
+    requires standing { StandsAll (machine_of p) l i row_words buf.old }
     ensures { Laid (machine_of p) l i buf.old buf.new }
 {
     let row = next_row(buf, p, l, i, ROW_WORDS);

@@ -12,7 +12,7 @@ pub loop-i-init : goal.loop-i-init
 loop-i-init c = (omega arith, filled_none _ _ _)
 
 pub next_row-row-requires : goal.next_row-row-requires
-next_row-row-requires c = ((c.requires.0, c.requires.1, c.requires.2, omega arith, omega (arith, c.loop-i.invariant.1.long)), c.loop-i.invariant.1.rows)
+next_row-row-requires c = record { ready = (c.requires.0, c.requires.1, c.requires.2, omega arith, omega (arith, c.loop-i.invariant.1.long)); standing = c.loop-i.invariant.1.rows }
 
 pub put_row-requires : goal.put_row-requires
 put_row-requires c = omega (arith, c.loop-i.invariant.1.long)

@@ -18,11 +18,11 @@ returns-then-i-l c = row_first _ _ _ _ c.if-i-l.true c.first_row.ensures
 pub backed-requires : goal.backed-requires
 backed-requires c =
     let got : RowOf (machine_of c.args.p) c.args.l (c.args.i - c.args.l) (bits_of c.get_row-before.result) = let e : length c.get_row-before.result ≡ row_words = search rules in
-    stands_got _ _ _ _ _ _ (omega (arith, ready-size c.args.p c.requires.0.0)) e c.get_row-before.ensures (c.requires.1 _ (omega arith)) in
-    (c.requires.0.0, got.clear)
+    stands_got _ _ _ _ _ _ (omega (arith, ready-size c.args.p c.requires.ready.0)) e c.get_row-before.ensures (c.requires.standing _ (omega arith)) in
+    (c.requires.ready.0, got.clear)
 
 pub returns : goal.returns
 returns c =
     let got : RowOf (machine_of c.args.p) c.args.l (c.args.i - c.args.l) (bits_of c.get_row-before.result) = let e : length c.get_row-before.result ≡ row_words = search rules in
-    stands_got _ _ _ _ _ _ (omega (arith, ready-size c.args.p c.requires.0.0)) e c.get_row-before.ensures (c.requires.1 _ (omega arith)) in
+    stands_got _ _ _ _ _ _ (omega (arith, ready-size c.args.p c.requires.ready.0)) e c.get_row-before.ensures (c.requires.standing _ (omega arith)) in
     row_next _ _ _ _ _ (omega arith) c.if-i-l.false got c.backed.ensures

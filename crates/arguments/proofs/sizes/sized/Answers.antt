@@ -1,0 +1,8 @@
+-- `arguments::sized`: the fields' own refusal, and then k.
+use mathlib.Core.Path.{sym, ◌∙◌}
+use borrow.Author.Rules.{rules}
+use Rattle.document.specs.Theorems.{ranges}
+use Rattle.arguments.proofs.sizes.sized.Goals as goal
+
+pub size-requires : goal.size-requires
+size-requires c = ranges _ (sym c.field_refusal-refusal.ensures ∙ c.if-refusal-ne0.false)
