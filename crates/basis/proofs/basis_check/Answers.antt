@@ -1,0 +1,50 @@
+-- `basis::basis_check` meets its contract.
+use Rattle.document.specs.Limits.{most_output}
+use lib.Dec.{ltb}
+use borrow.Author.Tests.{lt-ltb, le-ltb}
+use Rattle.document.specs.Refusals.{field_cases, outside, basis_refusal, field_refusal}
+use Rattle.document.specs.Lowest.{gives, skips, none_left, first_of, then_of, field_rises}
+use Rattle.document.specs.Ranges.{inside}
+use Rattle.document.specs.Theorems.{ranges}
+use Rattle.running.specs.Theorems.{prepared_ready, prepared_size}
+use Rattle.filling.specs.Theorems.{ready-size, ready_bits, product_small, prepared_bits}
+use mathlib.Core.Path.{◌≡◌, refl, sym, ap, ◌∙◌}
+use Prim.Native.Nat.{ℕ, zero, suc, ◌+◌, ◌*◌, ◌≤◌, ◌<◌, ◌-◌}
+use native.Mathlib.Omega.{arith}
+use lib.ListN.{length, get_or, set, length-set}
+use borrow.Author.Rules.{rules}
+use Rattle.basis.proofs.basis_check.Goals as goal
+
+pub returns-then-refusal-ne0 : goal.returns-then-refusal-ne0
+unfolding basis_refusal field_refusal
+returns-then-refusal-ne0 c = first_of _ _ _ (sym c.field_refusal-refusal.ensures) c.if-refusal-ne0.true
+
+pub prepare-p-requires : goal.prepare-p-requires
+prepare-p-requires c = ranges _ (sym c.field_refusal-refusal.ensures ∙ c.if-refusal-ne0.false)
+
+pub returns-then-outside : goal.returns-then-outside
+unfolding basis_refusal field_refusal
+returns-then-outside c = then_of 0 (field_cases c.args.g) _ _ (field_rises c.args.g) (sym c.field_refusal-refusal.ensures ∙ c.if-refusal-ne0.false) (gives _ _ _ _ (c.outside.ensures ∙ ap (λ k. outside 1 k c.args.t.0) (prepared_size _ _ (ranges _ (sym c.field_refusal-refusal.ensures ∙ c.if-refusal-ne0.false)) c.prepare-p.ensures)) c.if-outside.true)
+
+pub returns-then-outside-2 : goal.returns-then-outside-2
+unfolding basis_refusal field_refusal
+returns-then-outside-2 c = then_of 0 (field_cases c.args.g) _ _ (field_rises c.args.g) (sym c.field_refusal-refusal.ensures ∙ c.if-refusal-ne0.false) (skips _ _ _ _ _ (c.outside.ensures ∙ ap (λ k. outside 1 k c.args.t.0) (prepared_size _ _ (ranges _ (sym c.field_refusal-refusal.ensures ∙ c.if-refusal-ne0.false)) c.prepare-p.ensures)) c.if-outside.false (gives _ _ _ _ (c.outside-2.ensures ∙ ap (λ k. outside 1 k c.args.l.0) (prepared_bits _ _ (ranges _ (sym c.field_refusal-refusal.ensures ∙ c.if-refusal-ne0.false)) c.prepare-p.ensures)) c.if-outside-2.true))
+
+pub overflow_mul-t : goal.overflow_mul-t
+overflow_mul-t c = let r = prepared_ready _ _ (ranges _ (sym c.field_refusal-refusal.ensures ∙ c.if-refusal-ne0.false)) c.prepare-p.ensures in
+    let x = (inside 1 _ _ (sym c.outside.ensures ∙ c.if-outside.false)).1 in
+    let y = (inside 1 _ _ (sym c.outside-2.ensures ∙ c.if-outside-2.false)).1 in
+    let z : c.args.l.0 ≤ most_output = omega (arith, y, ready_bits _ r) in
+    omega (arith, product_small _ _ _ (ready-size _ r) x z)
+
+pub returns-then-p-t : goal.returns-then-p-t
+unfolding basis_refusal field_refusal
+returns-then-p-t c = then_of 0 (field_cases c.args.g) _ _ (field_rises c.args.g) (sym c.field_refusal-refusal.ensures ∙ c.if-refusal-ne0.false) (skips _ _ _ _ _ (c.outside.ensures ∙ ap (λ k. outside 1 k c.args.t.0) (prepared_size _ _ (ranges _ (sym c.field_refusal-refusal.ensures ∙ c.if-refusal-ne0.false)) c.prepare-p.ensures)) c.if-outside.false (skips _ _ _ _ _ (c.outside-2.ensures ∙ ap (λ k. outside 1 k c.args.l.0) (prepared_bits _ _ (ranges _ (sym c.field_refusal-refusal.ensures ∙ c.if-refusal-ne0.false)) c.prepare-p.ensures)) c.if-outside-2.false (gives _ _ _ _ (ap (λ k. ltb k (c.args.t.0 * c.args.l.0)) (prepared_size _ _ (ranges _ (sym c.field_refusal-refusal.ensures ∙ c.if-refusal-ne0.false)) c.prepare-p.ensures)) (lt-ltb _ _ c.if-p-t.true))))
+
+pub returns-then-room-lt-WORK_WORDS : goal.returns-then-room-lt-WORK_WORDS
+unfolding basis_refusal field_refusal
+returns-then-room-lt-WORK_WORDS c = then_of 0 (field_cases c.args.g) _ _ (field_rises c.args.g) (sym c.field_refusal-refusal.ensures ∙ c.if-refusal-ne0.false) (skips _ _ _ _ _ (c.outside.ensures ∙ ap (λ k. outside 1 k c.args.t.0) (prepared_size _ _ (ranges _ (sym c.field_refusal-refusal.ensures ∙ c.if-refusal-ne0.false)) c.prepare-p.ensures)) c.if-outside.false (skips _ _ _ _ _ (c.outside-2.ensures ∙ ap (λ k. outside 1 k c.args.l.0) (prepared_bits _ _ (ranges _ (sym c.field_refusal-refusal.ensures ∙ c.if-refusal-ne0.false)) c.prepare-p.ensures)) c.if-outside-2.false (skips _ _ _ _ _ (ap (λ k. ltb k (c.args.t.0 * c.args.l.0)) (prepared_size _ _ (ranges _ (sym c.field_refusal-refusal.ensures ∙ c.if-refusal-ne0.false)) c.prepare-p.ensures)) (le-ltb _ _ c.if-p-t.false) (gives _ _ _ _ refl (lt-ltb _ _ c.if-room-lt-WORK_WORDS.true)))))
+
+pub returns : goal.returns
+unfolding basis_refusal field_refusal
+returns c = then_of 0 (field_cases c.args.g) _ _ (field_rises c.args.g) (sym c.field_refusal-refusal.ensures ∙ c.if-refusal-ne0.false) (skips _ _ _ _ _ (c.outside.ensures ∙ ap (λ k. outside 1 k c.args.t.0) (prepared_size _ _ (ranges _ (sym c.field_refusal-refusal.ensures ∙ c.if-refusal-ne0.false)) c.prepare-p.ensures)) c.if-outside.false (skips _ _ _ _ _ (c.outside-2.ensures ∙ ap (λ k. outside 1 k c.args.l.0) (prepared_bits _ _ (ranges _ (sym c.field_refusal-refusal.ensures ∙ c.if-refusal-ne0.false)) c.prepare-p.ensures)) c.if-outside-2.false (skips _ _ _ _ _ (ap (λ k. ltb k (c.args.t.0 * c.args.l.0)) (prepared_size _ _ (ranges _ (sym c.field_refusal-refusal.ensures ∙ c.if-refusal-ne0.false)) c.prepare-p.ensures)) (le-ltb _ _ c.if-p-t.false) (skips _ _ _ _ _ refl (le-ltb _ _ c.if-room-lt-WORK_WORDS.false) none_left))))

@@ -1,0 +1,11 @@
+-- `question::search` meets its contract.
+use Rattle.question.proofs.Laws.{searched}
+use mathlib.Core.Path.{◌≡◌, refl, sym, ap, ◌∙◌}
+use Prim.Native.Nat.{ℕ, zero, suc, ◌+◌, ◌*◌, ◌≤◌, ◌<◌, ◌-◌}
+use native.Mathlib.Omega.{arith}
+use lib.ListN.{length, get_or, set, length-set}
+use borrow.Author.Rules.{rules}
+use Rattle.question.proofs.search.Goals as goal
+
+pub returns : goal.returns
+returns c = rw c.number.ensures (searched _ _ _ c.requires.3 _ _ _ c.fill.ensures c.set_tags.ensures _ _ _ c.eliminate-f.result c.eliminate-f.ensures)
