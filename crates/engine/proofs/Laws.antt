@@ -17,13 +17,13 @@ use Rattle.engine.specs.Answers.{Tells, Fits, Sized, Roomy, Eliminates, FirstSet
 
 -- ---- the test `!t`
 
-pub told_no : (t : Bool) {A : Type 0} → not t ≡ true → Tells t A → ¬ A
-told_no true e x = absurd (false≢true e)
+pub told_no : (t : Bool) {A : Type 0} → t ≡ false → Tells t A → ¬ A
+told_no true e x = absurd (true≢false e)
 told_no false e x = x
 
-pub told_yes : (t : Bool) {A : Type 0} → not t ≡ false → Tells t A → A
+pub told_yes : (t : Bool) {A : Type 0} → t ≡ true → Tells t A → A
 told_yes true e x = x
-told_yes false e x = absurd (true≢false e)
+told_yes false e x = absurd (false≢true e)
 
 -- what is left of a question
 pub told_rest : (t : Bool) {A B : Type 0} → (A → B) → (B → A) → Tells t A → Tells t B

@@ -63,8 +63,7 @@ fn number(f: Found, rows: usize) -> usize
 }
 
 // The number of the first row that is a sum of those before it; `rows` if there is none.
-#[unsafe(no_mangle)]
-pub extern "C" fn dayunglipo_engine_eliminate(
+pub fn dayunglipo_engine_eliminate(
     buf: &mut [u64],
     rows: usize,
     stride: usize,
@@ -83,8 +82,7 @@ pub extern "C" fn dayunglipo_engine_eliminate(
 
 // The same, after the words from `lead` to `width` of each row are overwritten by its own set: the
 // row that is found then has the set of the rows that add up to zero there.
-#[unsafe(no_mangle)]
-pub extern "C" fn dayunglipo_engine_first_set(
+pub fn dayunglipo_engine_first_set(
     buf: &mut [u64],
     rows: usize,
     stride: usize,
@@ -107,8 +105,7 @@ pub extern "C" fn dayunglipo_engine_first_set(
 
 // The rank of the first k bits of the rows, whose reduced row echelon form then stands at the
 // front, `width` words to a row, with zeros behind it.
-#[unsafe(no_mangle)]
-pub extern "C" fn dayunglipo_engine_basis(
+pub fn dayunglipo_engine_basis(
     buf: &mut [u64],
     rows: usize,
     stride: usize,

@@ -4,10 +4,6 @@ use borrow.Author.Rules.{rules}
 use native.Mathlib.Nat.{le-div_iff_mul-le}
 use Rattle.engine.proofs.fits.Goals as goal
 
--- UNKNOWN nonzero-div-if3
-div-if3 : tie.Need-nonzero-div-if3
-div-if3 c = search rules
-
 pub returns-then-rows-n : goal.returns-then-rows-n
 returns-then-rows-n c = λ z. omega (arith, (le-div_iff_mul-le {x = c.args.rows} z.strides).1 z.words)
 
