@@ -6,9 +6,10 @@
 ghost use Rattle.std.specs.Prelude.{◌≤◌, length};
 
 use document::{Dimension, Fields, MOST_BITS, MOST_OUTPUT, ROW_WORDS, Resolution, WORK_WORDS};
-use libc::STDOUT_FILENO;
 use question::Reply;
 use report::Report;
+
+const STDOUT_FILENO: i32 = 1;
 
 fn main() {
     let mut entry = [0u8; 67];

@@ -6,7 +6,8 @@
 ghost use Rattle.std.specs.Prelude.{◌≤◌, ◌<◌, length};
 
 use document::{Dimension, Fields, ROW_WORDS, Resolution, WORK_WORDS};
-use libc::STDOUT_FILENO;
+
+const STDOUT_FILENO: i32 = 1;
 
 // The words behind the work buffer, and what every word holds before a call.
 const BEHIND: usize = 8;

@@ -5,7 +5,8 @@
 ghost use Rattle.std.specs.Prelude.{◌≡◌, ◌+◌, ◌≤◌, length};
 
 use document::{Dimension, ROW_WORDS};
-use libc::STDOUT_FILENO;
+
+const STDOUT_FILENO: i32 = 1;
 
 fn main() {
     let mut entry = [0u8; 131];
