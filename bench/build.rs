@@ -1,4 +1,4 @@
-//! Links libengine.a, the elimination on its own, which `rt staticlib engine` writes.
+//! Links libengine.a, the elimination on its own, which `bench/run` builds from the crate engine_c.
 
 use std::path::PathBuf;
 

@@ -1,7 +1,7 @@
 -- k by the kind, and the bounds of k and L.
-use Rattle.std.specs.Prelude.{◌≡◌, ℕ, ◌*◌, ◌-◌, ◌≤◌}
+use Rattle.std.specs.Prelude.{◌≡◌, ◌*◌, ◌-◌, ◌≤◌}
 use Rattle.std.proofs.Math.Path.{ap}
-use Rattle.std.proofs.Common.{◌∙◌, mul-le-mul, le_refl, arith}
+use Rattle.std.proofs.Common.{mul-le-mul, le_refl, arith}
 use Rattle.std.proofs.Math.Logic.{by_cases}
 use Rattle.std.proofs.Math.Decide.{ℕ_discrete}
 use Rattle.kinds.specs.Generator.{Machine, tausworthe, gfsr, twisted, mersenne}

@@ -1,20 +1,20 @@
 -- From the rows in a buffer to the basis.
 use mathlib.Core.Path.{◌≡◌, refl, sym, ap, subst, ◌∙◌}
-use mathlib.Core.Bool.{Bool, false, ◌&&◌, true≢false}
+use mathlib.Core.Bool.{false, ◌&&◌, true≢false}
 use mathlib.Core.List.{List}
 use mathlib.Core.Logic.{by_cases}
 use native.Mathlib.Decide.{dec_lt}
-use Prim.Native.Nat.{ℕ, ◌+◌, ◌*◌, ◌/◌, ◌%◌, ◌^◌, ◌≤◌, ◌<◌}
+use Prim.Native.Nat.{ℕ, ◌+◌, ◌*◌, ◌/◌, ◌%◌, ◌≤◌, ◌<◌}
 use native.Mathlib.Nat.{mul-le-mul}
 use native.Mathlib.Omega.{arith}
 use borrow.Author.Tests.{ltb-false}
 use lib.Dec.{ltb}
-use lib.ListN.{length, get_or, take, drop, length-take, length-drop, get_or-eq_default}
-use lib.Seq.{get_or-take, get_or-drop, length-take-le}
+use lib.ListN.{length, take, drop, length-take, get_or-eq_default}
+use lib.Seq.{get_or-take, length-take-le}
 use Rattle.theory.specs.Def.{xorsum, unit, Spanned, Reduced}
 use Rattle.theory.specs.Laws.{xorsum_cong}
 use Rattle.theory.specs.Sums.{pair-unit, pair-none}
-use Rattle.digits.specs.Def.{Word, digit, bits_of, bits_from}
+use Rattle.digits.specs.Def.{Word, bits_of, bits_from}
 use Rattle.digits.specs.Laws.{digit-zero}
 use Rattle.kinds.specs.Generator.{Machine}
 use Rattle.kinds.specs.Rows.{bit-first}
@@ -31,7 +31,7 @@ use Rattle.document.specs.Basis.{row, BasisOf}
 use Rattle.running.specs.declared.Prepared.{Prepared}
 use Rattle.running.specs.Prepared.{PreparedFor, machine_of}
 use Rattle.running.specs.Theorems.{prepared_size}
-use Rattle.rows.specs.Theorems.{RowOf, row_prepared}
+use Rattle.rows.specs.Theorems.{row_prepared}
 use Rattle.elimination.specs.Rows.{rows_of}
 use Rattle.elimination.proofs.RowBits.{bits_same}
 use Rattle.reduction.specs.Columns.{ReducedForm}

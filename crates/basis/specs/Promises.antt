@@ -1,5 +1,5 @@
 -- What the basis calls promise.
-use Rattle.std.specs.Prelude.{◌≡◌, List, ℕ, ◌+◌, ◌*◌, ◌^◌, ◌<◌, ◌≤◌, length, get_or, take, drop}
+use Rattle.std.specs.Prelude.{◌≡◌, List, ℕ, ◌*◌, ◌^◌, ◌<◌, ◌≤◌, length, get_or, take, drop}
 use Rattle.theory.specs.Def.{Spanned, Reduced}
 use Rattle.digits.specs.Def.{Word, Clear, bits_of}
 use Rattle.kinds.specs.Generator.{Machine}

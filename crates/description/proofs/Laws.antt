@@ -2,14 +2,14 @@
 use mathlib.Core.Path.{◌≡◌, refl, sym, ap, ap₂, ◌∙◌}
 use mathlib.Core.Bool.{Bool, true, false, not, ◌||◌}
 use mathlib.Core.List.{List, [], ◌++◌}
-use Prim.Native.Nat.{ℕ, ◌+◌, ◌-◌, ◌*◌, ◌≤◌, ◌<◌, min}
+use Prim.Native.Nat.{ℕ, ◌+◌, ◌*◌, ◌≤◌, ◌<◌, min}
 use mathlib.Core.Logic.{by_cases}
 use native.Mathlib.Decide.{dec_lt}
 use native.Mathlib.Omega.{arith}
 use lib.ListN.{length, get_or, take, drop, set, length-take, length-drop}
-use lib.Seq.{take_all, ext_get_or, get_or-take, get_or-drop, get_or-set_same, get_or-set_other}
+use lib.Seq.{ext_get_or, get_or-take, get_or-drop, get_or-set_same, get_or-set_other}
 use Rattle.document.specs.declared.Fields.{Fields}
-use Rattle.document.specs.Description.{bytes, number, description, length_of, fields_of}
+use Rattle.document.specs.Description.{number, length_of, fields_of}
 use Rattle.document.specs.Refusals.{field_cases, write_refusal, outside, read_refusal, range_refusal}
 use Rattle.document.specs.Lowest.{after, field_rises, gives, skips}
 use Rattle.document.specs.Ranges.{Accepted, accepted, passed}

@@ -1,13 +1,13 @@
 -- The proofs that a machine's cells are linear, and that two replies that a definition allows are one reply.
-use Rattle.std.specs.Prelude.{◌≡◌, refl, Bool, true, false, cond, List, ℕ, suc, ◌*◌, ◌≤◌, ◌<◌, eqb, length, get_or}
-use Rattle.std.proofs.Common.{sym, ap, ◌∙◌, true≢false, le_antisymm, arith, ext_get_or}
+use Rattle.std.specs.Prelude.{◌≡◌, refl, Bool, true, false, cond, List, ℕ, suc, ◌*◌, ◌≤◌, ◌<◌, eqb}
+use Rattle.std.proofs.Common.{sym, ◌∙◌, le_antisymm, arith, ext_get_or}
 use Rattle.std.proofs.Math.Logic.{by_cases}
 use Rattle.std.proofs.Math.Decide.{dec_lt}
-use Rattle.theory.specs.Def.{Linear, Spanned}
+use Rattle.theory.specs.Def.{Linear}
 use Rattle.theory.specs.Theorems as T
 use Rattle.theory.specs.Cells as U
 use Rattle.theory.specs.Echelon.{spanned_trans}
-use Rattle.digits.specs.Def.{Word, Same}
+use Rattle.digits.specs.Def.{Word}
 use Rattle.kinds.specs.Generator.{Machine}
 use Rattle.kinds.specs.Linear.{LinearMachine}
 use Rattle.kinds.specs.Theorems.{tausworthe_linear, gfsr_linear, twisted_linear, mersenne_linear, output_linear}

@@ -1,5 +1,5 @@
 -- "Basis: for t·l at most k, the reduced row echelon form of the t·l rows over the k state bits".
-use Rattle.std.specs.Prelude.{Bool, ℕ, ◌*◌, ◌<◌}
+use Rattle.std.specs.Prelude.{ℕ, ◌*◌, ◌<◌}
 use Rattle.theory.specs.Def.{unit, Spanned, Reduced}
 use Rattle.digits.specs.Def.{Word, Clear}
 use Rattle.kinds.specs.Generator.{Machine}

@@ -1,20 +1,20 @@
 -- Small instances of the definitions, decided by computing: what the table of cases is proved by.
-use Rattle.std.specs.Prelude.{◌≡◌, Bool, ◌&&◌, ◌||◌, cond, List, ◌⊎◌, length, get_or}
+use Rattle.std.specs.Prelude.{◌≡◌, Bool, ◌&&◌, ◌||◌, cond, List, length, get_or}
 use Rattle.std.proofs.Math.Path.{refl, sym}
-use Rattle.std.proofs.Common.{ap, ap₂, ◌∙◌, true≢false, inl, inr, arith}
+use Rattle.std.proofs.Common.{ap, ◌∙◌, true≢false, inl, inr, arith}
 use Rattle.std.proofs.Math.Bool.{true, false, not}
 use Rattle.std.proofs.lemmas.Bool.{false≢true}
-use Prim.Native.Nat.{ℕ, zero, suc, ◌+◌, ◌*◌, ◌^◌, ◌≤◌, ◌<◌}
+use Prim.Native.Nat.{ℕ, zero, suc, ◌*◌, ◌^◌, ◌<◌}
 use Rattle.std.proofs.Math.Dec.{ltb, eqb}
-use borrow.Author.Tests.{ltb-true, eq-eqb, eqb-true, not-true, not-false}
-use Rattle.theory.specs.Def.{◌⊕◌, xorsum, Bits, bit, every, agree, evenly, Dependent, Independent, Spanned, Reduced}
+use borrow.Author.Tests.{ltb-true, eqb-true, not-true}
+use Rattle.theory.specs.Def.{xorsum, Bits, bit, every, agree, evenly, Spanned}
 use Rattle.theory.specs.Laws.{below_suc, and_true_l, and_true_r, agree_elim, every_intro, every_elim, find}
 use Rattle.theory.specs.Theorems as T
-use Rattle.digits.specs.Def.{Word, Clear, digit}
+use Rattle.digits.specs.Def.{Word, digit}
 use Rattle.digits.specs.Laws.{digit_past}
 use Rattle.kinds.specs.Generator.{Machine}
 use Rattle.kinds.specs.Linear.{LinearMachine}
-use Rattle.document.specs.Cells.{cell_bit, is_yes, FirstSet, Answer}
+use Rattle.document.specs.Cells.{cell_bit, is_yes, Answer}
 use Rattle.document.specs.Basis.{row, BasisOf}
 use Rattle.document.specs.Agreement.{cell_linear}
 

@@ -1,5 +1,5 @@
 -- "The generator": the machine that a kind and its fields stand for. The kinds themselves are defined in the crate kinds, file Generator.
-use Rattle.std.specs.Prelude.{Bool, cond, ℕ, ◌-◌, ◌/◌, ◌%◌, eqb, get_or}
+use Rattle.std.specs.Prelude.{cond, ℕ, ◌-◌, ◌/◌, ◌%◌, eqb, get_or}
 use Rattle.digits.specs.Def.{Word, digit, word_of}
 use Rattle.kinds.specs.Generator.{Machine, tausworthe, gfsr, twisted, mersenne}
 use Rattle.document.specs.declared.Fields.{Fields}

@@ -1,5 +1,5 @@
 -- What the refusals of the fields leave is just the document's ranges, with no field set that the kind hasn't got.
-use Rattle.std.specs.Prelude.{◌≡◌, refl, Bool, true, false, ◌&&◌, List, [], ◌∷◌, ℕ, zero, suc, ◌-◌, ◌*◌, ◌^◌, ◌≤◌, ◌<◌, ltb}
+use Rattle.std.specs.Prelude.{◌≡◌, refl, Bool, false, ◌&&◌, List, [], ◌∷◌, ℕ, zero, suc, ◌-◌, ◌*◌, ◌^◌, ◌≤◌, ◌<◌, ltb}
 use Rattle.std.proofs.Common.{sym, ◌∙◌, true≢false, arith, lt-ltb, le-ltb}
 use Rattle.std.proofs.Math.Path.{ap, ap₂}
 use Rattle.std.proofs.Math.Bool.{not, ◌||◌, or_assoc, or-false}

@@ -1,7 +1,6 @@
 -- The proof that a refusal is given exactly in its case, and the lowest of several.
-use Rattle.std.specs.Prelude.{◌≡◌, refl, Bool, true, false, ◌||◌, cond, List, [], ◌∷◌, ◌++◌, ◌⊎◌, ◌↔◌, ℕ, zero, suc, ◌≤◌, ◌<◌}
+use Rattle.std.specs.Prelude.{◌≡◌, refl, Bool, true, false, cond, List, [], ◌∷◌, ◌++◌, ◌⊎◌, ◌↔◌, ℕ, ◌≤◌, ◌<◌}
 use Rattle.std.proofs.Common.{sym, ap, ◌∙◌, true≢false, inl, inr, ⊎_elim, le_antisymm, arith}
-use Rattle.std.proofs.lemmas.Bool.{false≢true}
 use Rattle.document.specs.declared.Fields.{Fields}
 use Rattle.document.specs.Refusals.{Case, ◌if◌, lowest, field_cases, read_cases, write_cases, outputs_cases, question_cases, basis_cases, report_cases, value_cases, field_refusal}
 

@@ -1,14 +1,12 @@
 -- "Ranges": what holds of the fields of an accepted generator, and the proof that it does where nothing is refused. (`Just.antt` has the way back.)
-use Rattle.std.specs.Prelude.{◌≡◌, refl, Bool, true, ◌&&◌, ◌||◌, cond, List, [], ◌∷◌, ℕ, zero, suc, ◌+◌, ◌-◌, ◌*◌, ◌/◌, ◌%◌, ◌^◌, ◌≤◌, ◌<◌, eqb, ltb, get_or}
+use Rattle.std.specs.Prelude.{◌≡◌, refl, Bool, true, ◌&&◌, ◌||◌, List, ◌∷◌, ℕ, zero, suc, ◌+◌, ◌-◌, ◌*◌, ◌^◌, ◌≤◌, ◌<◌, ltb}
 use Rattle.std.proofs.Math.Path.{sym}
 use Rattle.std.proofs.Common.{ap, ap₂, subst, ◌∙◌, true≢false, add-one, arith}
 use Rattle.std.proofs.Math.Bool.{false, not}
-use Rattle.std.proofs.lemmas.Bool.{false≢true}
 use Rattle.std.proofs.Math.Logic.{by_cases}
 use Rattle.std.proofs.Math.Decide.{dec_lt, ℕ_discrete}
 use borrow.Author.Tests.{ltb-true, ltb-false, ne_eqb, le-ltb, not-false}
 use Rattle.theory.specs.Laws.{below_suc}
-use Rattle.digits.specs.Def.{nonzero}
 use Rattle.kinds.specs.Reads.{LocalMachine}
 use Rattle.kinds.specs.Theorems.{tausworthe_local, gfsr_local, twisted_local, mersenne_local}
 use Rattle.document.specs.declared.Fields.{Fields}

@@ -1,6 +1,6 @@
 -- "Refusal numbers": the table, and for each call the rows of the table that its column Where names.
-use Rattle.std.specs.Prelude.{◌≡◌, Bool, true, false, not, ◌&&◌, ◌||◌, cond, List, [], ◌∷◌, ◌++◌, ℕ, zero, suc, ◌+◌, ◌-◌, ◌*◌, ◌/◌, ◌%◌, ◌^◌, eqb, ltb, length, get_or}
-use Rattle.digits.specs.Def.{Word, nonzero, bits_of}
+use Rattle.std.specs.Prelude.{Bool, false, not, ◌&&◌, ◌||◌, cond, List, [], ◌∷◌, ◌++◌, ℕ, zero, suc, ◌-◌, ◌*◌, ◌^◌, eqb, ltb, length, get_or}
+use Rattle.digits.specs.Def.{nonzero, bits_of}
 use Rattle.document.specs.Limits.{most_bits, row_words, work_words, most_output, coefficient_bytes}
 use Rattle.document.specs.Generator.{by_kind, coefficient, size}
 use Rattle.document.specs.Description.{length_of, fields_of}

@@ -1,5 +1,5 @@
 -- "Report": resolutions, dimensions, gaps, sums and ME.
-use Rattle.std.specs.Prelude.{Bool, true, false, cond, ℕ, zero, suc, ◌+◌, ◌-◌, ◌*◌, ◌/◌, min, eqb}
+use Rattle.std.specs.Prelude.{Bool, cond, ℕ, zero, suc, ◌+◌, ◌-◌, ◌/◌, min, eqb}
 use Rattle.kinds.specs.Generator.{Machine}
 use Rattle.document.specs.Cells.{is_yes}
 

@@ -1,7 +1,7 @@
 -- The proofs that reading what was written gives the same generator, and writing what was read the same bytes.
-use Rattle.std.specs.Prelude.{◌≡◌, refl, Bool, true, false, not, ◌&&◌, ◌||◌, List, [], ◌∷◌, ◌++◌, ℕ, zero, suc, ◌+◌, ◌-◌, ◌*◌, ◌/◌, ◌%◌, ◌^◌, ◌≤◌, ◌<◌, eqb, ltb, length, take, drop, replicate}
+use Rattle.std.specs.Prelude.{◌≡◌, refl, false, not, ◌&&◌, ◌||◌, List, [], ◌∷◌, ◌++◌, ℕ, zero, suc, ◌+◌, ◌-◌, ◌*◌, ◌/◌, ◌%◌, ◌^◌, ◌≤◌, ◌<◌, eqb, ltb, length, drop, replicate}
 use Rattle.std.proofs.Math.Path.{sym, ap}
-use Rattle.std.proofs.Common.{ap₂, ◌∙◌, true≢false, arith, shr-shr, length-append, length-drop, drop_of_length-le, drop-cons, ext_get_or, le-ltb, eq-eqb, ne_eqb, eqb-true}
+use Rattle.std.proofs.Common.{ap₂, ◌∙◌, true≢false, arith, shr-shr, length-drop, drop_of_length-le, drop-cons, ext_get_or, le-ltb, eq-eqb, ne_eqb, eqb-true}
 use Rattle.std.proofs.Math.Logic.{by_cases}
 use Rattle.std.proofs.Math.Decide.{ℕ_discrete}
 use Rattle.std.proofs.Math.ListN.{get_or}
@@ -9,13 +9,13 @@ use Rattle.std.proofs.lemmas.List.{length-replicate, get_or-replicate}
 use Rattle.std.proofs.Math.Seq.{take_all}
 use Rattle.std.proofs.lemmas.Bool.{not-false}
 use Rattle.digits.specs.Def.{nonzero, digit}
-use Rattle.digits.specs.Laws.{digit_past, digit-zero}
+use Rattle.digits.specs.Laws.{digit-zero}
 use Rattle.digits.specs.Equal.{digits_equal}
 use Rattle.document.specs.declared.Fields.{Fields}
 use Rattle.document.specs.Limits.{coefficient_bytes}
-use Rattle.document.specs.Generator.{by_kind, coefficient}
+use Rattle.document.specs.Generator.{coefficient}
 use Rattle.document.specs.Description.{bytes, number, length_of, description, fields_of}
-use Rattle.document.specs.Refusals.{outside, bad_kind, any, one_set, stray_one, stray_twist, stray_field, coefficient_past, bad_own, bad_value, lowest, range_cases, field_cases, read_refusal, field_refusal}
+use Rattle.document.specs.Refusals.{outside, bad_kind, one_set, stray_one, stray_twist, stray_field, coefficient_past, bad_own, bad_value, lowest, range_cases, read_refusal, field_refusal}
 use Rattle.document.specs.Lowest.{skips}
 use Rattle.document.specs.Ranges.{is_one, is_two, is_three, is_four, or-none, inside, any_none, passed, Accepted, accepted, cases}
 

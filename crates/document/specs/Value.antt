@@ -1,5 +1,5 @@
 -- "Value: from Y and L, the f64 Y / 2^L exactly": its 64 bits as a number.
-use Rattle.std.specs.Prelude.{Bool, true, false, cond, ℕ, ◌+◌, ◌-◌, ◌*◌, ◌^◌, eqb, leb}
+use Rattle.std.specs.Prelude.{cond, ℕ, ◌+◌, ◌-◌, ◌*◌, ◌^◌, eqb, leb}
 use Rattle.document.specs.Limits.{most_output}
 use Rattle.document.specs.Report.{largest}
 

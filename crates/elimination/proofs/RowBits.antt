@@ -7,7 +7,7 @@ use Prim.Native.Nat.{ℕ, ◌+◌, ◌-◌, ◌*◌, ◌/◌, ◌%◌, ◌^◌, 
 use native.Mathlib.Nat.{one-mul}
 use native.Mathlib.Decide.{dec_lt, ℕ_discrete}
 use native.Mathlib.Omega.{arith}
-use lib.ListN.{length, get_or, set}
+use lib.ListN.{length, get_or}
 use lib.Seq.{get_or-set_same}
 use lib.Dec.{lit<}
 use Rattle.theory.specs.Def.{◌⊕◌, unit}

@@ -4,7 +4,7 @@ use mathlib.Core.Bool.{Bool, true, false, not, ◌||◌}
 use mathlib.Core.Logic.{by_cases}
 use native.Mathlib.Decide.{dec_lt, ℕ_discrete}
 use native.Mathlib.Nat.{mul-le-mul, le_of_lt}
-use Prim.Native.Nat.{ℕ, zero, suc, ◌-◌, ◌*◌, ◌^◌, ◌≤◌, ◌<◌}
+use Prim.Native.Nat.{ℕ, zero, suc, ◌*◌, ◌^◌, ◌≤◌, ◌<◌}
 use native.Mathlib.Omega.{arith}
 use lib.Dec.{eqb, ltb, leb}
 use lib.Pow.{pow_mono}

@@ -1,12 +1,10 @@
 -- Rows in a buffer: got, put and kept.
-use mathlib.Core.Path.{◌≡◌, refl, sym, ap, subst, ◌∙◌}
-use mathlib.Core.Bool.{Bool, true, false, cond}
+use mathlib.Core.Path.{◌≡◌, refl, sym, ap, ◌∙◌}
 use mathlib.Core.List.{List}
 use mathlib.Core.Logic.{by_cases}
 use native.Mathlib.Decide.{dec_lt, ℕ_discrete}
-use Prim.Native.Nat.{ℕ, ◌+◌, ◌-◌, ◌*◌, ◌/◌, ◌%◌, ◌≤◌, ◌<◌}
+use Prim.Native.Nat.{ℕ, ◌+◌, ◌*◌, ◌/◌, ◌%◌, ◌≤◌, ◌<◌}
 use native.Mathlib.Omega.{arith}
-use lib.Dec.{ltb}
 use lib.ListN.{length, get_or, set, length-set, get_or-eq_default}
 use lib.Seq.{get_or-set_same, get_or-set_other}
 use borrow.Author.Tests.{lt-ltb, le-ltb}
@@ -18,9 +16,9 @@ use Rattle.kinds.specs.Generator.{Machine}
 use Rattle.document.specs.Limits.{row_words}
 use Rattle.document.specs.Basis.{row}
 use Rattle.rows.specs.Theorems.{RowOf, row_same}
-use Rattle.elimination.specs.Words.{Kept, Written}
+use Rattle.elimination.specs.Words.{Written}
 use Rattle.elimination.proofs.RowBits.{bits_same}
-use Rattle.filling.specs.Rows.{stride, state_row, Stands, StandsAll, Filled}
+use Rattle.filling.specs.Rows.{stride, state_row, Stands, Filled}
 
 -- ---- words got
 

@@ -1,11 +1,10 @@
 -- A turn of `grow`: the row is laid, and then taken.
-use mathlib.Core.Path.{◌≡◌, refl, sym, ◌∙◌}
+use mathlib.Core.Path.{◌≡◌, refl, ◌∙◌}
 use mathlib.Core.Bool.{Bool, true, false}
 use mathlib.Core.List.{List}
 use mathlib.Core.Logic.{by_cases}
 use native.Mathlib.Decide.{dec_lt}
 use Prim.Native.Nat.{ℕ, ◌+◌, ◌*◌, ◌≤◌, ◌<◌}
-use native.Mathlib.Nat.{add-mul}
 use native.Mathlib.Omega.{arith}
 use lib.ListN.{length, get_or}
 use Rattle.digits.specs.Def.{bits_of}
@@ -19,7 +18,7 @@ use Rattle.elimination.specs.Words.{Written, Cleared}
 use Rattle.elimination.specs.Rows.{rows_of, slot_of, Taken}
 use Rattle.elimination.proofs.RowBits.{others_same}
 use Rattle.elimination.proofs.Take.{cleared_start, taken_more, taken_last}
-use Rattle.filling.specs.Rows.{stride, state_row, Stands, StandsAll, Laid, FirstDependent}
+use Rattle.filling.specs.Rows.{stride, state_row, StandsAll, Laid, FirstDependent}
 use Rattle.filling.proofs.Laws.{stands_put, stands_kept}
 
 -- ---- `lay_row`

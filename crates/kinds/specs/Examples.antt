@@ -1,8 +1,8 @@
 -- The operations on words and the first output, computed at small sizes by hand.
-use Rattle.std.specs.Prelude.{◌≡◌, refl, Bool, true, false, List, [], ◌∷◌, ℕ}
-use Rattle.theory.specs.Def.{xorsum, unit}
+use Rattle.std.specs.Prelude.{◌≡◌, refl, true, [], ◌∷◌}
+use Rattle.theory.specs.Def.{unit}
 use Rattle.digits.specs.Def.{digit, word_of, number_of}
-use Rattle.kinds.specs.Generator.{times, output_bit, ◌⊻◌, masked, right, left, join, twist, add_left, add_right, temper3, temper4, next_bit, stepped, tausworthe, mersenne}
+use Rattle.kinds.specs.Generator.{times, output_bit, ◌⊻◌, masked, right, left, join, twist, add_left, add_right, temper3, temper4, tausworthe, mersenne}
 
 -- 0x35 right by one is 0x1a, and its last bit adds 0xa3; 0x34 has none
 twists : number_of 8 (twist 8 (word_of 8 0xa3) (word_of 8 0x35)) ∷ number_of 8 (twist 8 (word_of 8 0xa3) (word_of 8 0x34)) ∷ [] ≡ 0xb9 ∷ 0x1a ∷ []

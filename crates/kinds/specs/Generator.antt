@@ -1,6 +1,6 @@
 -- Document 01, "The generator". Definitions only.
 -- A state of k bits and a word of w bits are functions ℕ → Bool, first bit first. Only the first k, or w, of them are read: `Theorems.antt`.
-use Rattle.std.specs.Prelude.{Bool, true, false, ◌&&◌, cond, ℕ, zero, suc, ◌+◌, ◌-◌, ◌*◌, ◌/◌, ◌%◌, ltb}
+use Rattle.std.specs.Prelude.{Bool, false, ◌&&◌, cond, ℕ, zero, suc, ◌+◌, ◌-◌, ◌*◌, ltb}
 use Rattle.theory.specs.Def.{◌⊕◌, xorsum}
 use Rattle.digits.specs.Def.{Word}
 

@@ -1,11 +1,11 @@
 -- What a move and an output read: of a word of w bits the first w, of a state of k bits the first k.
-use Rattle.std.specs.Prelude.{◌≡◌, refl, Bool, true, false, cond, ℕ, zero, suc, ◌+◌, ◌-◌, ◌*◌, ◌≤◌, ◌<◌, ltb}
-use Rattle.std.proofs.Common.{sym, ap, ◌∙◌, mul-le-mul_right, suc-mul, arith, lt-ltb, le-ltb}
+use Rattle.std.specs.Prelude.{◌≡◌, refl, Bool, cond, ℕ, zero, suc, ◌+◌, ◌-◌, ◌*◌, ◌≤◌, ◌<◌, ltb}
+use Rattle.std.proofs.Common.{ap, ◌∙◌, mul-le-mul_right, suc-mul, arith, lt-ltb, le-ltb}
 use Rattle.std.proofs.Math.Path.{ap₂}
 use Rattle.std.proofs.Math.Bool.{◌&&◌}
 use Rattle.std.proofs.Math.Logic.{by_cases}
 use Rattle.std.proofs.Math.Decide.{dec_lt}
-use Rattle.theory.specs.Def.{◌⊕◌, xorsum}
+use Rattle.theory.specs.Def.{◌⊕◌}
 use Rattle.theory.specs.Laws.{xorsum_cong, ⊕_false}
 use Rattle.digits.specs.Def.{Word, Same}
 use Rattle.kinds.specs.Generator.{Machine, times, output_bit, ◌⊻◌, masked, right, left, join, twist, add_left, add_right, temper3, temper4, next_bit, stepped, word, enter, next2, next3, next4, tausworthe, gfsr, twisted, mersenne}

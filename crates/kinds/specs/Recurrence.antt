@@ -1,15 +1,15 @@
 -- The proofs that the recurrences of document 01 hold of the states that are run through, for every n.
-use Rattle.std.specs.Prelude.{◌≡◌, refl, Bool, true, false, ◌&&◌, cond, ltb}
+use Rattle.std.specs.Prelude.{◌≡◌, refl, ◌&&◌}
 use Rattle.std.proofs.Math.Path.{sym, ap, fun_ext}
-use Rattle.std.proofs.Common.{ap₂, ◌∙◌}
+use Rattle.std.proofs.Common.{◌∙◌}
 use Prim.Native.Nat.{ℕ, zero, suc, ◌+◌, ◌-◌, ◌*◌, ◌≤◌, ◌<◌}
 use Rattle.std.proofs.Math.Nat.{suc-mul, add-zero, add-suc}
 use native.Mathlib.Omega.{arith}
 use borrow.Author.Tests.{lt-ltb, le-ltb}
-use Rattle.theory.specs.Def.{◌⊕◌, xorsum}
+use Rattle.theory.specs.Def.{xorsum}
 use Rattle.theory.specs.Laws.{xorsum_cong}
 use Rattle.digits.specs.Def.{Word, Same}
-use Rattle.kinds.specs.Generator.{Machine, times, output_bit, ◌⊻◌, join, twist, next_bit, stepped, word, enter, next2, next3, next4}
+use Rattle.kinds.specs.Generator.{times, next_bit, stepped, word, enter}
 
 pub times-add : (m n : ℕ) (f : Word → Word) (s : Word) → times (m + n) f s ≡ times m f (times n f s)
 unfolding times

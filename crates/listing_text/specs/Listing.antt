@@ -1,5 +1,5 @@
 -- The listing of a description's bytes.
-use Rattle.std.specs.Prelude.{◌≡◌, Bool, cond, List, ◌++◌, ℕ, ◌+◌, ◌/◌, ◌≤◌, ◌<◌, min, eqb, length, get_or, drop}
+use Rattle.std.specs.Prelude.{◌≡◌, cond, List, ◌++◌, ℕ, ◌+◌, ◌/◌, ◌≤◌, ◌<◌, min, eqb, length, get_or, drop}
 use Rattle.kinds.specs.Generator.{Machine}
 use Rattle.document.specs.Limits.{most_bits, most_output}
 use Rattle.document.specs.Generator.{machine}

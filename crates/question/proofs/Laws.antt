@@ -12,7 +12,7 @@ use lib.Dec.{ltb, lit<}
 use lib.ListN.{length, get_or, replicate, get_or-eq_default}
 use Rattle.theory.specs.Def.{Linear}
 use Rattle.theory.specs.Laws.{xorsum_cong}
-use Rattle.digits.specs.Def.{digit, bits_of, bits_from}
+use Rattle.digits.specs.Def.{bits_of, bits_from}
 use Rattle.digits.specs.Laws.{digit-zero}
 use Rattle.kinds.specs.Generator.{Machine}
 use Rattle.document.specs.declared.Fields.{Fields}
@@ -21,12 +21,11 @@ use Rattle.document.specs.Generator.{machine, size}
 use Rattle.document.specs.Refusals.{field_cases, outside, question_refusal}
 use Rattle.document.specs.Lowest.{field_rises, after}
 use Rattle.document.specs.Ranges.{Accepted, accepted, passed, inside}
-use Rattle.document.specs.Cells.{cell_bit, is_yes, Answer}
+use Rattle.document.specs.Cells.{cell_bit, Answer}
 use Rattle.document.specs.Memory.{Front}
 use Rattle.document.specs.Theorems.{machine_linear, cell_linear, yes_is_even}
 use Rattle.running.specs.declared.Prepared.{Prepared}
 use Rattle.running.specs.Prepared.{PreparedFor, machine_of}
-use Rattle.rows.specs.Theorems.{RowOf}
 use Rattle.span.specs.Def.{RowsOf, DependentRows, IndependentRows}
 use Rattle.span.specs.Leads.{dependent_same, independent_same}
 use Rattle.span.specs.Outputs.{independent_outputs}

@@ -1,9 +1,9 @@
 -- Two replies, with their memory, that the promise of a question allows are one.
-use Rattle.std.specs.Prelude.{◌≡◌, refl, Bool, List, ℕ, ◌+◌, ◌*◌, ◌/◌, ◌%◌, ◌^◌, ◌<◌, length, get_or}
-use Rattle.std.proofs.Common.{sym, ap, ◌∙◌, arith, ext_get_or}
+use Rattle.std.specs.Prelude.{◌≡◌, Bool, List, ℕ, ◌+◌, ◌*◌, ◌/◌, ◌%◌, ◌^◌, ◌<◌, length, get_or}
+use Rattle.std.proofs.Common.{sym, ◌∙◌, arith, ext_get_or}
 use Rattle.std.proofs.Math.Logic.{by_cases}
 use Rattle.std.proofs.Math.Decide.{ℕ_discrete}
-use Rattle.digits.specs.Def.{digit, bits_of}
+use Rattle.digits.specs.Def.{bits_of}
 use Rattle.digits.specs.Equal.{digits_equal}
 use Rattle.document.specs.declared.Fields.{Fields}
 use Rattle.document.specs.declared.Dimension.{Dimension}

@@ -1,19 +1,18 @@
 -- From the first dependent bits of a prepared generator to its answers, and what is left in the work buffer. Assumes nothing.
-use mathlib.Core.Path.{◌≡◌, sym, ap, ap₂, subst, ◌∙◌}
+use mathlib.Core.Path.{◌≡◌, ap, ◌∙◌}
 use mathlib.Core.List.{List}
-use Prim.Native.Nat.{ℕ, ◌+◌, ◌-◌, ◌*◌, ◌≤◌, ◌<◌}
+use Prim.Native.Nat.{ℕ, ◌+◌, ◌-◌, ◌≤◌, ◌<◌}
 use native.Mathlib.Omega.{arith}
 use borrow.Author.Count.{below_more}
-use lib.Dec.{leb}
 use borrow.Author.Tests.{ltb-false}
 use lib.ListN.{length, get_or, set}
 use lib.Seq.{get_or-set_same, get_or-set_other}
 use Rattle.document.specs.declared.Fields.{Fields}
-use Rattle.document.specs.Limits.{most_bits, most_output, work_words}
+use Rattle.document.specs.Limits.{work_words}
 use Rattle.document.specs.Generator.{machine}
 use Rattle.document.specs.Memory.{Front}
 use Rattle.document.specs.Ranges.{Accepted, accepted, passed}
-use Rattle.document.specs.Refusals.{lowest, field_cases, report_cases, report_refusal}
+use Rattle.document.specs.Refusals.{field_cases, report_refusal}
 use Rattle.document.specs.Lowest.{after, field_rises}
 use Rattle.document.specs.Cells.{is_yes}
 use Rattle.elimination.specs.Words.{Cleared}

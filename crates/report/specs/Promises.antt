@@ -1,5 +1,5 @@
 -- What a report promises.
-use Rattle.std.specs.Prelude.{◌≡◌, Bool, true, false, List, ℕ, ◌-◌, ◌/◌, min, eqb, length, get_or, replicate}
+use Rattle.std.specs.Prelude.{◌≡◌, false, List, ℕ, ◌-◌, ◌/◌, min, eqb, length, get_or, replicate}
 use Rattle.kinds.specs.Generator.{Machine}
 use Rattle.document.specs.declared.Fields.{Fields}
 use Rattle.document.specs.Limits.{most_bits, most_output, work_words}

@@ -1,6 +1,6 @@
 -- Two replies, with the memory after them, that the promise of a report allows are one; and a report made from the first dependent bits is
 -- that of the machine whose questions they answer.
-use Rattle.std.specs.Prelude.{◌≡◌, refl, List, ℕ, ◌≤◌, eqb, length}
+use Rattle.std.specs.Prelude.{◌≡◌, List, ℕ, ◌≤◌, eqb, length}
 use Rattle.std.proofs.Common.{sym, ap, ◌∙◌, arith}
 use Rattle.std.proofs.Math.Logic.{by_cases}
 use Rattle.std.proofs.Math.Decide.{ℕ_discrete}
@@ -20,7 +20,7 @@ use Rattle.filling.specs.Theorems.{ready-size}
 use Rattle.tables.specs.Tables.{says}
 use Rattle.tables.specs.Theorems.{entries_agree, resolutions_are, dimensions_are, resolution_sum_is, dimension_sum_is}
 use Rattle.report.specs.declared.reply.Report.{Report}
-use Rattle.report.specs.Promises.{refused_with, ReportOf, ReportedAs, MadeOf}
+use Rattle.report.specs.Promises.{ReportOf, ReportedAs, MadeOf}
 
 -- ---- agreement
 

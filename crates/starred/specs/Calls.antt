@@ -1,5 +1,5 @@
 -- A corollary of the promises and the table (document/Cases): whatever a call replies that keeps its promise is the table's reply.
-use Rattle.std.specs.Prelude.{◌≡◌, refl, Bool, true, false, List, [], ◌∷◌, ◌++◌, ℕ, ◌*◌, ◌≤◌, ◌<◌, ltb, length, get_or}
+use Rattle.std.specs.Prelude.{◌≡◌, refl, true, false, List, [], ◌∷◌, ℕ, ◌*◌, ◌≤◌, ◌<◌, ltb, length, get_or}
 use Rattle.std.proofs.Common.{sym, ap, ◌∙◌, le-ltb, le_refl}
 use Rattle.std.specs.Float.{binary64}
 use Rattle.std.specs.Float.Ieee.{of_bits}
@@ -8,7 +8,7 @@ use Rattle.document.specs.declared.Fields.{Fields}
 use Rattle.document.specs.Limits.{row_words, work_words}
 use Rattle.document.specs.Generator.{machine}
 use Rattle.document.specs.Description.{fields_of}
-use Rattle.document.specs.Refusals.{lowest, field_cases, field_refusal, read_refusal, question_refusal, basis_refusal, report_refusal}
+use Rattle.document.specs.Refusals.{field_cases, field_refusal, question_refusal, basis_refusal, report_refusal}
 use Rattle.document.specs.Lowest.{then_of, skips, none_left, field_rises}
 use Rattle.document.specs.Theorems.{read_accepted, answers_agree, bases_agree}
 use Rattle.document.specs.Cases.{Reply, says_yes, says_no, basis, ME, sums, Case, asked, valued, table, set_of, Holds, All, Right, Every, starred}

@@ -1,9 +1,9 @@
 -- What callers conclude: tables and sums made from first dependent bits are the document's, for any machine whose questions they answer.
-use Rattle.std.specs.Prelude.{◌≡◌, refl, Bool, cond, List, eqb, length, get_or}
+use Rattle.std.specs.Prelude.{◌≡◌, refl, Bool, cond, List, get_or}
 use Rattle.std.proofs.Math.Path.{sym, ap}
 use Rattle.std.proofs.Common.{◌∙◌, arith, ext_get_or}
 use Rattle.std.proofs.Math.Logic.{by_cases}
-use Prim.Native.Nat.{ℕ, zero, suc, ◌+◌, ◌-◌, ◌*◌, ◌/◌, ◌≤◌, ◌<◌, min}
+use Prim.Native.Nat.{ℕ, zero, suc, ◌+◌, ◌-◌, ◌/◌, ◌≤◌, min}
 use Rattle.std.proofs.Math.Decide.{dec_lt}
 use Rattle.kinds.specs.Generator.{Machine}
 use Rattle.document.specs.Limits.{most_bits, most_output}

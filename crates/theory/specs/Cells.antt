@@ -1,15 +1,14 @@
 -- The proofs of what `Theorems.antt` says of cells: dependent sets, counts, and the counting theorem.
-use Rattle.std.specs.Prelude.{◌≡◌, ◌&&◌, ◌⊎◌, ◌↔◌, eqb}
+use Rattle.std.specs.Prelude.{◌≡◌, ◌&&◌, ◌⊎◌, ◌↔◌}
 use Rattle.std.proofs.Math.Path.{refl, sym, ap, ap₂, fun_ext}
 use Rattle.std.proofs.Common.{◌∙◌, pow_pos, pow-add, mul-div_cancel, le_refl, add-mul, zero-mul, suc-mul, arith}
 use Rattle.std.proofs.Math.Bool.{Bool, true, false, not, true≢false, and-false}
-use Rattle.std.proofs.lemmas.Bool.{false≢true}
 use Rattle.std.proofs.Math.Logic.{inl, inr}
 use Prim.Native.Nat.{ℕ, zero, suc, ◌+◌, ◌-◌, ◌*◌, ◌/◌, ◌^◌, ◌≤◌, ◌<◌}
 use Rattle.std.proofs.Math.Nat.{mul-add, mul-one, two-pow-succ, one-le-pow, pow-le-pow_right}
 use Rattle.std.proofs.Math.Decide.{ℕ_discrete, dec_lt}
 use borrow.Author.Tests.{eq-eqb, eqb-true}
-use Rattle.theory.specs.Def.{◌⊕◌, xorsum, Bits, bit, tabulate, every, zeros, ◌⊞◌, count, agree, Linear, hits, Equidistributed, evenly, Cancels, NonEmpty, Dependent, Independent}
+use Rattle.theory.specs.Def.{◌⊕◌, xorsum, Bits, bit, tabulate, zeros, ◌⊞◌, count, agree, Linear, hits, Equidistributed, evenly, Cancels, NonEmpty, Dependent, Independent}
 use Rattle.theory.specs.Laws.{⊕_comm, ⊕_self, ⊕_false, ⊕_cancel, ⊕_same, not-⊕_true, ⊕-and, xor-ac, below_suc, put, put_below, put_from, put_at, xorsum-⊕, xorsum_cong, xorsum-none}
 use Rattle.theory.specs.Laws.{agree_cong, agree_intro, agree_elim, agree_shift, linear_zeros, linear_⊕, find, count_cong, count_shift, count_pos, count_found, count-all, count_split, bit-tabulate, every_intro, every_elim}
 

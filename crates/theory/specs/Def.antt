@@ -1,6 +1,6 @@
 -- What is claimed of a machine whose output bits are sums, modulo 2, of the bits of its state. Definitions only.
 -- A word, a row, a set and a pattern are functions ℕ → Bool, first bit first, read below the bound at hand.
-use Rattle.std.specs.Prelude.{◌≡◌, Bool, true, false, not, ◌&&◌, cond, ℕ, zero, suc, ◌+◌, ◌<◌, ◌≤◌, eqb}
+use Rattle.std.specs.Prelude.{◌≡◌, Bool, true, false, not, ◌&&◌, cond, ℕ, zero, suc, ◌+◌, ◌<◌, eqb}
 
 infixl 32 ◌⊕◌
 infixr 40 ◌∷◌

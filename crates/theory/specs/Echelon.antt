@@ -1,6 +1,6 @@
 -- Spans, and the proof that a reduced row echelon form is unique.
 use Rattle.std.specs.Prelude.{◌≡◌, refl, Bool, true, false, ◌&&◌, ◌⊎◌, ℕ, zero, suc, ◌≤◌, ◌<◌}
-use Rattle.std.proofs.Common.{sym, ap, ap₂, ◌∙◌, true≢false, inl, inr, le_refl, le_antisymm, arith}
+use Rattle.std.proofs.Common.{sym, ap₂, ◌∙◌, true≢false, inl, inr, le_refl, le_antisymm, arith}
 use Rattle.std.proofs.Math.Bool.{and-false, and-true}
 use Rattle.std.proofs.Math.Decide.{ℕ_discrete, dec_lt}
 use Rattle.theory.specs.Def.{◌⊕◌, xorsum, Spanned, Reduced}

@@ -1,9 +1,9 @@
 -- Laws of bits, sums, patterns, states and counts.
-use Rattle.std.specs.Prelude.{◌≡◌, refl, Bool, true, false, not, ◌&&◌, cond, ◌⊎◌, ℕ, zero, suc, ◌+◌, ◌*◌, ◌^◌, ◌≤◌, ◌<◌, eqb}
+use Rattle.std.specs.Prelude.{◌≡◌, refl, Bool, true, false, not, ◌&&◌, cond, ◌⊎◌, ℕ, zero, suc, ◌+◌, ◌^◌, ◌≤◌, ◌<◌}
 use Rattle.std.proofs.Common.{sym, ap, ap₂, ◌∙◌, inl, inr, add_comm, arith}
 use Rattle.std.proofs.Math.Path.{fun_ext}
 use Rattle.std.proofs.lemmas.Bool.{false≢true}
-use Rattle.std.proofs.Math.Bool.{and-false, and_comm}
+use Rattle.std.proofs.Math.Bool.{and_comm}
 use Rattle.std.proofs.Math.Nat.{two-pow-succ}
 use Rattle.std.proofs.Math.Decide.{ℕ_discrete}
 use Rattle.theory.specs.Def.{◌⊕◌, xorsum, Bits, [], ◌∷◌, bit, tabulate, zeros, ◌⊞◌, count, every, agree, Linear}

@@ -1,7 +1,6 @@
 -- Sums of bits, cut and joined; the sum that a row stands for.
 use Rattle.std.specs.Prelude.{◌≡◌, refl, Bool, true, false, ◌&&◌, ℕ, zero, suc, ◌+◌, ◌-◌, ◌≤◌, ◌<◌}
 use Rattle.std.proofs.Common.{sym, ap, ap₂, ◌∙◌, add-suc, add-zero, arith, eq-eqb, ne_eqb}
-use Rattle.std.proofs.Math.Path.{fun_ext}
 use Rattle.std.proofs.Math.Bool.{and-false, and-true, and_comm}
 use Rattle.theory.specs.Def.{◌⊕◌, xorsum, unit, pair}
 use Rattle.theory.specs.Laws.{⊕_assoc, ⊕_comm, ⊕_false, ⊕-and, and-⊕, put, put_below, put_at, xorsum-⊕, xorsum_cong, xorsum-none, xorsum_pick}

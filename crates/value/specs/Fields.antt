@@ -1,5 +1,5 @@
 -- The bits of y / 2 ^ l, h being the index of y's highest set bit. Assumes nothing.
-use Rattle.std.specs.Prelude.{◌≡◌, Bool, cond, eqb, leb, Float}
+use Rattle.std.specs.Prelude.{◌≡◌, Bool, cond, eqb, Float}
 use Rattle.std.proofs.Common.{sym, ◌∙◌, mod-eq_of_lt, mul-lt-mul_of_pos_right, pow-suc, add-one, ne_eqb, pow-add, pow_pos, pow_mono}
 use Rattle.std.proofs.Math.Path.{ap, subst}
 use Rattle.std.proofs.Math.Bool.{false}

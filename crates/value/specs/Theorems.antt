@@ -1,5 +1,5 @@
 -- The float with document 01's bits is exactly Y / 2^L, and two answers that the promise allows are one.
-use Rattle.std.specs.Prelude.{◌≡◌, refl, true, false, not, ℕ, zero, ◌^◌, ◌≤◌, ◌<◌, ltb}
+use Rattle.std.specs.Prelude.{◌≡◌, refl, false, not, ℕ, ◌^◌, ◌≤◌, ◌<◌, ltb}
 use Rattle.std.proofs.Common.{sym, ◌∙◌, zero-mul, arith, pow_mono, eq-eqb, ne_eqb, ltb-true}
 use Rattle.std.proofs.Math.Logic.{by_cases}
 use Rattle.std.proofs.Math.Decide.{dec_lt, ℕ_discrete}

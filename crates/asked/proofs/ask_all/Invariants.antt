@@ -1,7 +1,6 @@
 use mathlib.Core.Path.{◌≡◌}
 use Prim.Native.Nat.{◌≤◌, ◌-◌}
 use lib.ListN.{length}
-use borrow.Author.Rules.{rules}
 use Rattle.asked.proofs.ask_all.Given as goal
 
 abbrev pub invariant-loop-t : goal.invariant-loop-t

@@ -1,6 +1,4 @@
 use Prim.Native.Nat.{◌≤◌, ◌-◌}
-use lib.ListN.{set}
-use borrow.Author.Rules.{rules}
 use Rattle.asked.proofs.print_set.Given as goal
 
 abbrev pub invariant-loop-i : goal.invariant-loop-i

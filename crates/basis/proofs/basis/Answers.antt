@@ -1,11 +1,8 @@
 -- `basis::basis` meets its contract.
 use lib.Seq.{length-take-le}
 use Rattle.basis.proofs.Laws.{part_handed}
-use mathlib.Core.Path.{◌≡◌, refl, sym, ap, ◌∙◌}
-use Prim.Native.Nat.{ℕ, zero, suc, ◌+◌, ◌*◌, ◌≤◌, ◌<◌, ◌-◌}
+use mathlib.Core.Path.{sym, ◌∙◌}
 use native.Mathlib.Omega.{arith}
-use lib.ListN.{length, get_or, set, length-set}
-use borrow.Author.Rules.{rules}
 use Rattle.basis.proofs.basis.Goals as goal
 
 pub slice_bounds-result-end : goal.slice_bounds-result-end

@@ -8,11 +8,9 @@ use Rattle.document.specs.Ranges.{inside}
 use Rattle.document.specs.Theorems.{ranges}
 use Rattle.running.specs.Theorems.{prepared_ready, prepared_size}
 use Rattle.filling.specs.Theorems.{ready-size, ready_bits, product_small, prepared_bits}
-use mathlib.Core.Path.{◌≡◌, refl, sym, ap, ◌∙◌}
-use Prim.Native.Nat.{ℕ, zero, suc, ◌+◌, ◌*◌, ◌≤◌, ◌<◌, ◌-◌}
+use mathlib.Core.Path.{refl, sym, ap, ◌∙◌}
+use Prim.Native.Nat.{◌*◌, ◌≤◌}
 use native.Mathlib.Omega.{arith}
-use lib.ListN.{length, get_or, set, length-set}
-use borrow.Author.Rules.{rules}
 use Rattle.basis.proofs.basis_check.Goals as goal
 
 pub returns-then-refusal-ne0 : goal.returns-then-refusal-ne0

@@ -2,11 +2,8 @@
 use Rattle.running.specs.Theorems.{prepared_ready, prepared_size}
 use Rattle.filling.specs.Theorems.{ready-size, size_most, prepared_bits, bits_width}
 use Rattle.basis.proofs.Laws.{all_passed, basis_of, rank_some, product_some}
-use mathlib.Core.Path.{◌≡◌, refl, sym, ap, ◌∙◌}
-use Prim.Native.Nat.{ℕ, zero, suc, ◌+◌, ◌*◌, ◌≤◌, ◌<◌, ◌-◌}
+use mathlib.Core.Path.{refl, sym, ◌∙◌}
 use native.Mathlib.Omega.{arith}
-use lib.ListN.{length, get_or, set, length-set}
-use borrow.Author.Rules.{rules}
 use Rattle.basis.proofs.basis_rows.Goals as goal
 
 pub returns-then-refusal-ne0 : goal.returns-then-refusal-ne0

@@ -1,11 +1,7 @@
 -- `basis::reduced_rows` meets its contract.
 use Rattle.filling.specs.Theorems.{ready-size}
 use Rattle.basis.proofs.Laws.{based}
-use mathlib.Core.Path.{◌≡◌, refl, sym, ap, ◌∙◌}
-use Prim.Native.Nat.{ℕ, zero, suc, ◌+◌, ◌*◌, ◌≤◌, ◌<◌, ◌-◌}
 use native.Mathlib.Omega.{arith}
-use lib.ListN.{length, get_or, set, length-set}
-use borrow.Author.Rules.{rules}
 use Rattle.basis.proofs.reduced_rows.Goals as goal
 
 pub fill-requires : goal.fill-requires

@@ -1,9 +1,7 @@
 use mathlib.Core.Path.{◌≡◌, ap₂}
-use Prim.Native.Nat.{◌≤◌, ◌-◌}
 use native.Mathlib.Omega.{arith}
 use borrow.Author.Rules.{rules}
 use lib.Bits.{bit_xor}
-use Rattle.elimination.specs.Words.{Added}
 use Rattle.elimination.proofs.Words.{written_none, written_more, written_apart}
 use Rattle.elimination.proofs.add_words.Goals as goal
 

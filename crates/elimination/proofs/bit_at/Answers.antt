@@ -1,5 +1,4 @@
 -- `elimination::bit_at` meets its contract.
-use borrow.Author.Rules.{rules}
 use Rattle.digits.specs.Def.{bits_from}
 use Rattle.digits.specs.Parity.{digit_test}
 use Rattle.elimination.proofs.bit_at.Goals as goal

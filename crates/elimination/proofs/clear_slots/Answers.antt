@@ -1,9 +1,7 @@
 use mathlib.Core.Path.{◌≡◌, refl}
-use Prim.Native.Nat.{◌≤◌, ◌-◌}
 use native.Mathlib.Omega.{arith}
 use borrow.Author.Rules.{rules}
 use native.Mathlib.Nat.{zero-add}
-use Rattle.elimination.specs.Words.{Cleared}
 use Rattle.elimination.proofs.Words.{written_none, written_more}
 use Rattle.elimination.proofs.clear_slots.Goals as goal
 

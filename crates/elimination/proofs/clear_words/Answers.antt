@@ -1,8 +1,6 @@
 use mathlib.Core.Path.{◌≡◌, refl}
-use Prim.Native.Nat.{◌≤◌, ◌-◌}
 use native.Mathlib.Omega.{arith}
 use borrow.Author.Rules.{rules}
-use Rattle.elimination.specs.Words.{Cleared}
 use Rattle.elimination.proofs.Words.{written_none, written_more}
 use Rattle.elimination.proofs.clear_words.Goals as goal
 

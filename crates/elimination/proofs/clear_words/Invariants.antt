@@ -1,10 +1,6 @@
 -- `elimination::clear_words` meets its contract. The loop's invariant: the words below k are zero.
-use mathlib.Core.Path.{◌≡◌, refl}
 use Prim.Native.Nat.{◌≤◌, ◌-◌}
-use native.Mathlib.Omega.{arith}
-use borrow.Author.Rules.{rules}
 use Rattle.elimination.specs.Words.{Cleared}
-use Rattle.elimination.proofs.Words.{written_none, written_more}
 use Rattle.elimination.proofs.clear_words.Given as goal
 
 abbrev pub invariant-loop-k : goal.invariant-loop-k

@@ -1,11 +1,10 @@
 use mathlib.Core.Path.{◌≡◌, refl}
-use Prim.Native.Nat.{zero, ◌+◌, ◌*◌, ◌≤◌, ◌-◌}
+use Prim.Native.Nat.{◌+◌, ◌*◌, ◌≤◌}
 use native.Mathlib.Omega.{arith}
 use lib.ListN.{length}
 use borrow.Author.Rules.{rules}
-use Rattle.elimination.specs.Rows.{SlotsKept, Eliminating}
 use Rattle.elimination.proofs.Words.{row_end}
-use Rattle.elimination.proofs.Take.{eliminating_start, eliminating_more, eliminating_last, slots_cleared, slots_again, finish, not-true, not-false}
+use Rattle.elimination.proofs.Take.{eliminating_start, eliminating_more, eliminating_last, slots_cleared, slots_again, finish}
 use Rattle.elimination.proofs.eliminate.Goals as goal
 
 pub loop-r-init : goal.loop-r-init
@@ -32,8 +31,7 @@ returns-then-not-take_row c =
 
 pub loop-r-preserved : goal.loop-r-preserved
 loop-r-preserved c =
-    let l = c.loop-r in
-    (
+    let l = c.loop-r in (
       omega arith,
       slots_again l.invariant.1 c.take_row.ensures.slots_kept,
       eliminating_more _ _ _ _ _ _ _ c.requires.0 c.requires.1 l.invariant.2 _ _ _ c.take_row.ensures c.if-not-take_row.false,

@@ -1,12 +1,6 @@
 -- `elimination::eliminate` meets its contract. The loop's invariant: the rows below r have leading bits of their own.
-use mathlib.Core.Path.{◌≡◌, refl}
-use Prim.Native.Nat.{zero, ◌+◌, ◌*◌, ◌≤◌, ◌-◌}
-use native.Mathlib.Omega.{arith}
-use lib.ListN.{length}
-use borrow.Author.Rules.{rules}
+use Prim.Native.Nat.{◌*◌, ◌≤◌, ◌-◌}
 use Rattle.elimination.specs.Rows.{SlotsKept, Eliminating}
-use Rattle.elimination.proofs.Words.{row_end}
-use Rattle.elimination.proofs.Take.{eliminating_start, eliminating_more, eliminating_last, slots_cleared, slots_again, finish, not-true, not-false}
 use Rattle.elimination.proofs.eliminate.Given as goal
 
 abbrev pub invariant-loop-r : goal.invariant-loop-r

@@ -1,12 +1,10 @@
 use mathlib.Core.Path.{◌≡◌}
-use Prim.Native.Nat.{ℕ, ◌+◌, ◌*◌, ◌≤◌, ◌-◌}
+use Prim.Native.Nat.{ℕ, ◌+◌}
 use native.Mathlib.Omega.{arith}
 use lib.ListN.{get_or}
 use borrow.Author.Rules.{rules}
 use lib.Count.{trailing_le}
-use Rattle.digits.specs.Def.{bits_from}
 use Rattle.digits.specs.Lowest.{lowest-digit}
-use Rattle.span.specs.Def.{Zero}
 use Rattle.elimination.proofs.RowBits.{zero_more, leading_found, leading_none}
 use Rattle.elimination.proofs.leading_bit.Goals as goal
 

@@ -1,14 +1,7 @@
 -- `elimination::leading_bit` meets its contract. The loop's invariant: the words below k are zero.
-use mathlib.Core.Path.{◌≡◌}
-use Prim.Native.Nat.{ℕ, ◌+◌, ◌*◌, ◌≤◌, ◌-◌}
-use native.Mathlib.Omega.{arith}
-use lib.ListN.{get_or}
-use borrow.Author.Rules.{rules}
-use lib.Count.{trailing_le}
+use Prim.Native.Nat.{◌*◌, ◌≤◌, ◌-◌}
 use Rattle.digits.specs.Def.{bits_from}
-use Rattle.digits.specs.Lowest.{lowest-digit}
 use Rattle.span.specs.Def.{Zero}
-use Rattle.elimination.proofs.RowBits.{zero_more, leading_found, leading_none}
 use Rattle.elimination.proofs.leading_bit.Given as goal
 
 abbrev pub invariant-loop-k : goal.invariant-loop-k

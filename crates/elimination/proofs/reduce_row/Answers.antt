@@ -3,7 +3,6 @@ use Prim.Native.Nat.{◌+◌, ◌*◌, ◌≤◌, ◌-◌}
 use native.Mathlib.Omega.{arith}
 use lib.ListN.{get_or}
 use borrow.Author.Rules.{rules}
-use Rattle.elimination.specs.Rows.{Reduced}
 use Rattle.elimination.proofs.Reduce.{reduced_start, source_end, source_apart, words_zero, leading_rises, reduced_more}
 use Rattle.elimination.proofs.reduce_row.Goals as goal
 

@@ -1,11 +1,6 @@
 -- `elimination::reduce_row` meets its contract. The loop's invariant: some earlier rows are added, and b is the leading bit; it rises with each turn.
-use mathlib.Core.Path.{refl}
-use Prim.Native.Nat.{◌+◌, ◌*◌, ◌≤◌, ◌-◌}
-use native.Mathlib.Omega.{arith}
-use lib.ListN.{get_or}
-use borrow.Author.Rules.{rules}
+use Prim.Native.Nat.{◌*◌, ◌-◌}
 use Rattle.elimination.specs.Rows.{Reduced}
-use Rattle.elimination.proofs.Reduce.{reduced_start, source_end, source_apart, words_zero, leading_rises, reduced_more}
 use Rattle.elimination.proofs.reduce_row.Given as goal
 
 abbrev pub invariant-loop-b : goal.invariant-loop-b

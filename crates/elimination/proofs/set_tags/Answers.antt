@@ -1,9 +1,8 @@
 use mathlib.Core.Path.{◌≡◌}
-use Prim.Native.Nat.{◌+◌, ◌*◌, ◌≤◌, ◌-◌}
+use Prim.Native.Nat.{◌+◌, ◌*◌, ◌≤◌}
 use native.Mathlib.Omega.{arith}
 use lib.ListN.{length}
 use borrow.Author.Rules.{rules}
-use Rattle.elimination.specs.Rows.{Tagging}
 use Rattle.elimination.proofs.Words.{row_end}
 use Rattle.elimination.proofs.Tags.{tagging_none, tagging_more}
 use Rattle.elimination.proofs.set_tags.Goals as goal
@@ -37,12 +36,11 @@ flip_bit-requires c =
     omega (arith, inside, c.clear_words.ensures.kept.long)
 
 pub loop-p-preserved : goal.loop-p-preserved
-loop-p-preserved c =
-    (
-      omega arith,
-      rw c.flip_bit.ensures
-          (tagging_more _ _ _ _ _ _ _ c.loop-p.invariant.1 c.requires.0 c.requires.1 c.requires.3 c.loop-p-test.true c.requires.2 _ c.clear_words.ensures),
-    )
+loop-p-preserved c = (
+  omega arith,
+  rw c.flip_bit.ensures
+      (tagging_more _ _ _ _ _ _ _ c.loop-p.invariant.1 c.requires.0 c.requires.1 c.requires.3 c.loop-p-test.true c.requires.2 _ c.clear_words.ensures),
+)
 
 pub returns : goal.returns
 returns c =

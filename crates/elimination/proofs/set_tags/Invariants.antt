@@ -1,12 +1,6 @@
 -- `elimination::set_tags` meets its contract. The loop's invariant: the rows below p carry their sets.
-use mathlib.Core.Path.{◌≡◌}
-use Prim.Native.Nat.{◌+◌, ◌*◌, ◌≤◌, ◌-◌}
-use native.Mathlib.Omega.{arith}
-use lib.ListN.{length}
-use borrow.Author.Rules.{rules}
+use Prim.Native.Nat.{◌≤◌, ◌-◌}
 use Rattle.elimination.specs.Rows.{Tagging}
-use Rattle.elimination.proofs.Words.{row_end}
-use Rattle.elimination.proofs.Tags.{tagging_none, tagging_more}
 use Rattle.elimination.proofs.set_tags.Given as goal
 
 abbrev pub invariant-loop-p : goal.invariant-loop-p

@@ -1,5 +1,4 @@
 -- `elimination::take_row` meets its contract.
-use borrow.Author.Rules.{rules}
 use Rattle.elimination.proofs.Take.{taken_yes, taken_no}
 use Rattle.elimination.proofs.take_row.Goals as goal
 

@@ -1,7 +1,6 @@
 -- `engine::dayunglipo_engine_basis` meets its contract.
 use native.Mathlib.Omega.{arith}
 use lib.ListN.{length}
-use borrow.Author.Rules.{rules}
 use native.Mathlib.Nat.{mul-le-mul, mul-le-mul_right}
 use Rattle.engine.proofs.Laws.{told_no, told_yes, basis_refused, basis_answered}
 use Rattle.engine.specs.Answers.{Fits, Roomy}

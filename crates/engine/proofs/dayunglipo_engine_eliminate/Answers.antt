@@ -1,6 +1,5 @@
 -- `engine::dayunglipo_engine_eliminate` meets its contract.
 use lib.ListN.{length}
-use borrow.Author.Rules.{rules}
 use Rattle.engine.proofs.Laws.{told_no, told_yes, refused, answered}
 use Rattle.engine.specs.Answers.{Sized}
 use Rattle.engine.proofs.dayunglipo_engine_eliminate.Goals as goal

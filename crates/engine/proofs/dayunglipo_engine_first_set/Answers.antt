@@ -1,7 +1,6 @@
 -- `engine::dayunglipo_engine_first_set` meets its contract.
 use native.Mathlib.Omega.{arith}
 use lib.ListN.{length}
-use borrow.Author.Rules.{rules}
 use native.Mathlib.Nat.{mul-le-mul_left}
 use Rattle.engine.proofs.Laws.{told_no, told_yes, set_refused, set_answered}
 use Rattle.engine.specs.Answers.{Sized, Roomy}

@@ -1,11 +1,6 @@
-use Rattle.running.specs.Prepared.{machine_of}
-use Rattle.filling.specs.Rows.{Filled}
 use Rattle.filling.proofs.Laws.{filled_none, filled_more}
-use mathlib.Core.Path.{◌≡◌, refl, sym, ap, ◌∙◌}
-use Prim.Native.Nat.{ℕ, zero, suc, ◌+◌, ◌*◌, ◌≤◌, ◌<◌, ◌-◌}
+use mathlib.Core.Path.{◌≡◌}
 use native.Mathlib.Omega.{arith}
-use lib.ListN.{length, get_or, set, length-set}
-use borrow.Author.Rules.{rules}
 use Rattle.filling.proofs.fill.Goals as goal
 
 pub loop-i-init : goal.loop-i-init

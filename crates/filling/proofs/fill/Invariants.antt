@@ -1,12 +1,7 @@
 -- `filling::fill` meets its contract.
 use Rattle.running.specs.Prepared.{machine_of}
 use Rattle.filling.specs.Rows.{Filled}
-use Rattle.filling.proofs.Laws.{filled_none, filled_more}
-use mathlib.Core.Path.{◌≡◌, refl, sym, ap, ◌∙◌}
-use Prim.Native.Nat.{ℕ, zero, suc, ◌+◌, ◌*◌, ◌≤◌, ◌<◌, ◌-◌}
-use native.Mathlib.Omega.{arith}
-use lib.ListN.{length, get_or, set, length-set}
-use borrow.Author.Rules.{rules}
+use Prim.Native.Nat.{◌≤◌, ◌-◌}
 use Rattle.filling.proofs.fill.Given as goal
 
 abbrev pub invariant-loop-i : goal.invariant-loop-i

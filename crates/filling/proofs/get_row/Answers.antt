@@ -1,10 +1,6 @@
-use Rattle.document.specs.Limits.{row_words}
-use Rattle.filling.proofs.Laws.{Got, got_more}
-use mathlib.Core.Path.{◌≡◌, refl, sym, ap, ◌∙◌}
-use Prim.Native.Nat.{ℕ, zero, suc, ◌+◌, ◌*◌, ◌≤◌, ◌<◌, ◌-◌}
+use Rattle.filling.proofs.Laws.{got_more}
+use mathlib.Core.Path.{refl}
 use native.Mathlib.Omega.{arith}
-use lib.ListN.{length, get_or, set, length-set}
-use borrow.Author.Rules.{rules}
 use Rattle.filling.proofs.get_row.Goals as goal
 
 pub loop-k-init : goal.loop-k-init

@@ -1,11 +1,6 @@
-use Rattle.running.specs.Prepared.{machine_of}
-use Rattle.elimination.proofs.Take.{not-true, not-false}
-use Rattle.filling.proofs.Turn.{Growing, growing_none, made, growing_more, growing_last, growing_all}
-use mathlib.Core.Path.{◌≡◌, refl, sym, ap, ◌∙◌}
-use Prim.Native.Nat.{ℕ, zero, suc, ◌+◌, ◌*◌, ◌≤◌, ◌<◌, ◌-◌}
+use Rattle.filling.proofs.Turn.{growing_none, made, growing_more, growing_last, growing_all}
+use mathlib.Core.Path.{◌≡◌, refl, ◌∙◌}
 use native.Mathlib.Omega.{arith}
-use lib.ListN.{length, get_or, set, length-set}
-use borrow.Author.Rules.{rules}
 use Rattle.filling.proofs.grow.Goals as goal
 
 pub loop-i-init : goal.loop-i-init

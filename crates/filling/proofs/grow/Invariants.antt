@@ -1,12 +1,9 @@
 -- `filling::grow` meets its contract.
 use Rattle.running.specs.Prepared.{machine_of}
-use Rattle.elimination.proofs.Take.{not-true, not-false}
-use Rattle.filling.proofs.Turn.{Growing, growing_none, made, growing_more, growing_last, growing_all}
-use mathlib.Core.Path.{◌≡◌, refl, sym, ap, ◌∙◌}
-use Prim.Native.Nat.{ℕ, zero, suc, ◌+◌, ◌*◌, ◌≤◌, ◌<◌, ◌-◌}
-use native.Mathlib.Omega.{arith}
-use lib.ListN.{length, get_or, set, length-set}
-use borrow.Author.Rules.{rules}
+use Rattle.filling.proofs.Turn.{Growing}
+use mathlib.Core.Path.{◌≡◌}
+use Prim.Native.Nat.{◌≤◌, ◌-◌}
+use lib.ListN.{length}
 use Rattle.filling.proofs.grow.Given as goal
 
 abbrev pub invariant-loop-i : goal.invariant-loop-i

@@ -1,10 +1,6 @@
 -- `filling::lay_row` meets its contract.
 use Rattle.filling.proofs.Turn.{laid}
-use mathlib.Core.Path.{◌≡◌, refl, sym, ap, ◌∙◌}
-use Prim.Native.Nat.{ℕ, zero, suc, ◌+◌, ◌*◌, ◌≤◌, ◌<◌, ◌-◌}
 use native.Mathlib.Omega.{arith}
-use lib.ListN.{length, get_or, set, length-set}
-use borrow.Author.Rules.{rules}
 use Rattle.filling.proofs.lay_row.Goals as goal
 
 pub next_row-row-requires : goal.next_row-row-requires

@@ -5,10 +5,10 @@ use Rattle.running.specs.Prepared.{machine_of}
 use Rattle.rows.specs.Theorems.{RowOf, row_first, row_next}
 use Rattle.filling.specs.Theorems.{ready-size}
 use Rattle.filling.proofs.Laws.{stands_got}
-use mathlib.Core.Path.{◌≡◌, refl, sym, ap, ◌∙◌}
-use Prim.Native.Nat.{ℕ, zero, suc, ◌+◌, ◌*◌, ◌≤◌, ◌<◌, ◌-◌}
+use mathlib.Core.Path.{◌≡◌}
+use Prim.Native.Nat.{◌-◌}
 use native.Mathlib.Omega.{arith}
-use lib.ListN.{length, get_or, set, length-set}
+use lib.ListN.{length}
 use borrow.Author.Rules.{rules}
 use Rattle.filling.proofs.next_row.Goals as goal
 

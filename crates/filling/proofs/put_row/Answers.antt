@@ -1,11 +1,7 @@
 use Rattle.document.specs.Limits.{row_words}
-use Rattle.elimination.specs.Words.{Written}
 use Rattle.elimination.proofs.Words.{written_none, written_more}
-use mathlib.Core.Path.{◌≡◌, refl, sym, ap, ◌∙◌}
-use Prim.Native.Nat.{ℕ, zero, suc, ◌+◌, ◌*◌, ◌≤◌, ◌<◌, ◌-◌}
+use mathlib.Core.Path.{◌≡◌, refl}
 use native.Mathlib.Omega.{arith}
-use lib.ListN.{length, get_or, set, length-set}
-use borrow.Author.Rules.{rules}
 use Rattle.filling.proofs.put_row.Goals as goal
 
 pub loop-k-init : goal.loop-k-init

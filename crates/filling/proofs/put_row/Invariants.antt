@@ -1,12 +1,8 @@
 -- `filling::put_row` meets its contract.
 use Rattle.document.specs.Limits.{row_words}
 use Rattle.elimination.specs.Words.{Written}
-use Rattle.elimination.proofs.Words.{written_none, written_more}
-use mathlib.Core.Path.{◌≡◌, refl, sym, ap, ◌∙◌}
-use Prim.Native.Nat.{ℕ, zero, suc, ◌+◌, ◌*◌, ◌≤◌, ◌<◌, ◌-◌}
-use native.Mathlib.Omega.{arith}
-use lib.ListN.{length, get_or, set, length-set}
-use borrow.Author.Rules.{rules}
+use Prim.Native.Nat.{◌≤◌, ◌-◌}
+use lib.ListN.{get_or}
 use Rattle.filling.proofs.put_row.Given as goal
 
 abbrev pub invariant-loop-k : goal.invariant-loop-k

@@ -1,5 +1,5 @@
 -- `matrices::fill` is safe and ends.
-use Rattle.std.proofs.Common.{◌≡◌, ◌-◌, length, rules}
+use Rattle.std.proofs.Common.{◌≡◌, ◌-◌, length}
 use Rattle.matrices.proofs.fill.Given as goal
 
 abbrev pub invariant-loop-i : goal.invariant-loop-i

@@ -1,5 +1,5 @@
 -- `matrices::print_set` is safe and ends.
-use Rattle.std.proofs.Common.{◌*◌, ◌≤◌, mul-le-mul, arith, rules}
+use Rattle.std.proofs.Common.{◌*◌, ◌≤◌, mul-le-mul, arith}
 use Rattle.matrices.proofs.print_set.Goals as goal
 
 pub overflow_mul-d : goal.overflow_mul-d

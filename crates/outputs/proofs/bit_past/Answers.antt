@@ -1,11 +1,8 @@
-use mathlib.Core.Bool.{not, false, ◌&&◌}
-use lib.Dec.{ltb}
-use Rattle.digits.specs.Def.{bits_of}
 use Rattle.document.specs.Limits.{row_words}
 use Rattle.document.specs.Refusals.{any}
 use Rattle.document.specs.Ranges.{any_next, any_found}
 use mathlib.Core.Path.{◌≡◌, refl, sym, ◌∙◌}
-use Prim.Native.Nat.{◌*◌, ◌≤◌, ◌-◌}
+use Prim.Native.Nat.{◌*◌}
 use native.Mathlib.Omega.{arith}
 use borrow.Author.Rules.{rules}
 use Rattle.outputs.proofs.bit_past.Goals as goal

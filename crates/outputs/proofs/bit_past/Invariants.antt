@@ -3,11 +3,8 @@ use lib.Dec.{ltb}
 use Rattle.digits.specs.Def.{bits_of}
 use Rattle.document.specs.Limits.{row_words}
 use Rattle.document.specs.Refusals.{any}
-use Rattle.document.specs.Ranges.{any_next, any_found}
-use mathlib.Core.Path.{◌≡◌, refl, sym, ◌∙◌}
+use mathlib.Core.Path.{◌≡◌}
 use Prim.Native.Nat.{◌*◌, ◌≤◌, ◌-◌}
-use native.Mathlib.Omega.{arith}
-use borrow.Author.Rules.{rules}
 use Rattle.outputs.proofs.bit_past.Given as goal
 
 abbrev pub invariant-loop-i : goal.invariant-loop-i

@@ -1,11 +1,8 @@
 use mathlib.Core.Bool.{not, ◌&&◌}
-use lib.Dec.{ltb}
 use borrow.Author.Tests.{lt-ltb, le-ltb}
 use Rattle.digits.specs.Def.{bits_of}
 use Rattle.digits.specs.Parity.{digit_test}
 use mathlib.Core.Path.{sym, ap, ◌∙◌}
-use Prim.Native.Nat.{◌-◌}
-use borrow.Author.Rules.{rules}
 use Rattle.outputs.proofs.late_bit.Goals as goal
 
 pub returns-then-i-k : goal.returns-then-i-k

@@ -2,9 +2,6 @@ use Rattle.running.specs.Theorems.{prepared_ready}
 use Rattle.outputs.proofs.Laws.{refused_as, room_is, ran_as, stopped_as}
 use Rattle.document.specs.Theorems.{ranges}
 use mathlib.Core.Path.{sym, ◌∙◌}
-use Prim.Native.Nat.{◌-◌}
-use lib.ListN.{length}
-use borrow.Author.Rules.{rules}
 use Rattle.outputs.proofs.outputs.Goals as goal
 
 pub returns-then-refusal-ne0 : goal.returns-then-refusal-ne0

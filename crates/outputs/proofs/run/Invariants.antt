@@ -1,11 +1,6 @@
 use Rattle.running.specs.Prepared.{machine_of}
-use Rattle.running.specs.Theorems.{ready_local}
-use Rattle.outputs.proofs.Laws.{Running, running_start, running_turn}
-use mathlib.Core.Path.{◌≡◌}
+use Rattle.outputs.proofs.Laws.{Running}
 use Prim.Native.Nat.{◌≤◌, ◌-◌}
-use native.Mathlib.Omega.{arith}
-use lib.ListN.{length}
-use borrow.Author.Rules.{rules}
 use Rattle.outputs.proofs.run.Given as goal
 
 abbrev pub invariant-loop-n : goal.invariant-loop-n

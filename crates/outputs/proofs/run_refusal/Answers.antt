@@ -1,8 +1,6 @@
 use Rattle.document.specs.Lowest.{gives, skips, none_left}
 use borrow.Author.Tests.{lt-ltb, le-ltb}
 use mathlib.Core.Path.{refl}
-use Prim.Native.Nat.{◌-◌}
-use borrow.Author.Rules.{rules}
 use Rattle.outputs.proofs.run_refusal.Goals as goal
 
 pub returns-then-outside : goal.returns-then-outside

@@ -1,10 +1,6 @@
 -- `question::decide` meets its contract.
 use Rattle.question.proofs.Laws.{decided}
-use mathlib.Core.Path.{◌≡◌, refl, sym, ap, ◌∙◌}
-use Prim.Native.Nat.{ℕ, zero, suc, ◌+◌, ◌*◌, ◌≤◌, ◌<◌, ◌-◌}
 use native.Mathlib.Omega.{arith}
-use lib.ListN.{length, get_or, set, length-set}
-use borrow.Author.Rules.{rules}
 use Rattle.question.proofs.decide.Goals as goal
 
 pub search-d-requires : goal.search-d-requires

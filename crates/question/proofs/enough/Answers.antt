@@ -1,10 +1,7 @@
 -- `question::enough` meets its contract.
 use Rattle.filling.specs.Theorems.{product_small}
-use mathlib.Core.Path.{◌≡◌, refl, sym, ap, ◌∙◌}
-use Prim.Native.Nat.{ℕ, zero, suc, ◌+◌, ◌*◌, ◌≤◌, ◌<◌, ◌-◌}
+use mathlib.Core.Path.{refl}
 use native.Mathlib.Omega.{arith}
-use lib.ListN.{length, get_or, set, length-set}
-use borrow.Author.Rules.{rules}
 use Rattle.question.proofs.enough.Goals as goal
 
 pub overflow_mul-m : goal.overflow_mul-m

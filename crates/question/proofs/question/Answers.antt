@@ -3,11 +3,8 @@ use Rattle.document.specs.Limits.{row_words}
 use Rattle.running.specs.Theorems.{prepared_ready, prepared_size}
 use Rattle.filling.specs.Theorems.{ready-size, ready_bits, prepared_bits, bits_width}
 use Rattle.question.proofs.Laws.{all_passed, zeros, zeros_small, answered}
-use mathlib.Core.Path.{◌≡◌, refl, sym, ap, ◌∙◌}
-use Prim.Native.Nat.{ℕ, zero, suc, ◌+◌, ◌*◌, ◌≤◌, ◌<◌, ◌-◌}
+use mathlib.Core.Path.{refl, sym, ◌∙◌}
 use native.Mathlib.Omega.{arith}
-use lib.ListN.{length, get_or, set, length-set}
-use borrow.Author.Rules.{rules}
 use Rattle.question.proofs.question.Goals as goal
 
 pub returns-then-refusal-ne0 : goal.returns-then-refusal-ne0

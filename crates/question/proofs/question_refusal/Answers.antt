@@ -5,11 +5,7 @@ use Rattle.document.specs.Lowest.{gives, skips, none_left, first_of, then_of, fi
 use Rattle.document.specs.Theorems.{ranges}
 use Rattle.running.specs.Theorems.{prepared_size}
 use Rattle.filling.specs.Theorems.{prepared_bits}
-use mathlib.Core.Path.{◌≡◌, refl, sym, ap, ◌∙◌}
-use Prim.Native.Nat.{ℕ, zero, suc, ◌+◌, ◌*◌, ◌≤◌, ◌<◌, ◌-◌}
-use native.Mathlib.Omega.{arith}
-use lib.ListN.{length, get_or, set, length-set}
-use borrow.Author.Rules.{rules}
+use mathlib.Core.Path.{refl, sym, ap, ◌∙◌}
 use Rattle.question.proofs.question_refusal.Goals as goal
 
 pub returns-then-refusal-ne0 : goal.returns-then-refusal-ne0

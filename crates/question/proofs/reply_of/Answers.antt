@@ -2,10 +2,9 @@
 use Rattle.question.proofs.Laws.{zeros, zeros_small}
 use Rattle.filling.specs.Rows.{stride}
 use Rattle.document.specs.Limits.{row_words}
-use mathlib.Core.Path.{◌≡◌, refl, sym, ap, ◌∙◌}
-use Prim.Native.Nat.{ℕ, zero, suc, ◌+◌, ◌*◌, ◌≤◌, ◌<◌, ◌-◌}
+use mathlib.Core.Path.{refl}
+use Prim.Native.Nat.{◌+◌, ◌*◌}
 use native.Mathlib.Omega.{arith}
-use lib.ListN.{length, get_or, set, length-set}
 use borrow.Author.Rules.{rules}
 use Rattle.question.proofs.reply_of.Goals as goal
 

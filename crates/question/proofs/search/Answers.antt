@@ -1,10 +1,5 @@
 -- `question::search` meets its contract.
 use Rattle.question.proofs.Laws.{searched}
-use mathlib.Core.Path.{◌≡◌, refl, sym, ap, ◌∙◌}
-use Prim.Native.Nat.{ℕ, zero, suc, ◌+◌, ◌*◌, ◌≤◌, ◌<◌, ◌-◌}
-use native.Mathlib.Omega.{arith}
-use lib.ListN.{length, get_or, set, length-set}
-use borrow.Author.Rules.{rules}
 use Rattle.question.proofs.search.Goals as goal
 
 pub returns : goal.returns

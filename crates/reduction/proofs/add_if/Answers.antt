@@ -1,7 +1,6 @@
 -- `reduction::add_if` meets its contract.
 use mathlib.Core.Path.{sym, ◌∙◌}
 use native.Mathlib.Omega.{arith}
-use borrow.Author.Rules.{rules}
 use Rattle.elimination.proofs.Words.{apart_rows, apart_from}
 use Rattle.reduction.proofs.Columns.{added_yes, added_no}
 use Rattle.reduction.proofs.add_if.Goals as goal

@@ -1,7 +1,6 @@
 -- `reduction::bring_row` meets its contract.
 use mathlib.Core.Path.{sym}
 use native.Mathlib.Omega.{arith}
-use borrow.Author.Rules.{rules}
 use Rattle.elimination.proofs.Words.{apart_rows, apart_from}
 use Rattle.reduction.proofs.Columns.{brought_same, brought-add}
 use Rattle.reduction.proofs.bring_row.Goals as goal

@@ -1,10 +1,7 @@
 use mathlib.Core.Path.{◌≡◌, ◌∙◌}
-use Prim.Native.Nat.{◌≤◌, ◌-◌}
 use native.Mathlib.Omega.{arith}
 use borrow.Author.Rules.{rules}
-use mathlib.Core.Logic.{⊎_elim}
 use Rattle.elimination.proofs.Words.{row_end}
-use Rattle.reduction.specs.Columns.{Column}
 use Rattle.reduction.proofs.Columns.{column_none, column_skip, column_add}
 use Rattle.reduction.proofs.clear_column.Goals as goal
 use Rattle.reduction.proofs.clear_column.Goals.{then-q-r, else-q-r}
@@ -26,7 +23,7 @@ pub loop-q-preserved : goal.loop-q-preserved
 loop-q-preserved c =
     let l = c.loop-q in
     elim c.if-q-r.branch [
-      then-q-r w ↦ (omega arith, rw w.buf-is (column_add _ _ _ _ _ _ _ _ l.invariant.1 _ c.loop-q-test.true w.if-q-r.true c.requires.in_room.1 c.requires.in_room.3 w.add_if.ensures))
+      | then-q-r w ↦ (omega arith, rw w.buf-is (column_add _ _ _ _ _ _ _ _ l.invariant.1 _ c.loop-q-test.true w.if-q-r.true c.requires.in_room.1 c.requires.in_room.3 w.add_if.ensures))
       | else-q-r w ↦ (omega arith, rw w.buf-is (column_skip _ _ _ _ _ _ _ _ l.invariant.1 w.if-q-r.false))
     ]
 

@@ -1,12 +1,6 @@
 -- `reduction::clear_column` meets its contract. The loop's invariant: the rows below q are done, the others as they were.
-use mathlib.Core.Path.{◌≡◌, ◌∙◌}
 use Prim.Native.Nat.{◌≤◌, ◌-◌}
-use native.Mathlib.Omega.{arith}
-use borrow.Author.Rules.{rules}
-use mathlib.Core.Logic.{⊎_elim}
-use Rattle.elimination.proofs.Words.{row_end}
 use Rattle.reduction.specs.Columns.{Column}
-use Rattle.reduction.proofs.Columns.{column_none, column_skip, column_add}
 use Rattle.reduction.proofs.clear_column.Given as goal
 
 abbrev pub invariant-loop-q : goal.invariant-loop-q

@@ -1,8 +1,6 @@
 use mathlib.Core.Path.{◌≡◌}
-use Prim.Native.Nat.{◌≤◌, ◌-◌}
 use native.Mathlib.Omega.{arith}
 use borrow.Author.Rules.{rules}
-use Rattle.reduction.specs.Packs.{Copied}
 use Rattle.elimination.proofs.Words.{written_none, written_more}
 use Rattle.reduction.proofs.copy_words.Goals as goal
 

@@ -1,10 +1,6 @@
 -- `reduction::copy_words` meets its contract. The loop's invariant: the words below k are copied.
-use mathlib.Core.Path.{◌≡◌}
 use Prim.Native.Nat.{◌≤◌, ◌-◌}
-use native.Mathlib.Omega.{arith}
-use borrow.Author.Rules.{rules}
 use Rattle.reduction.specs.Packs.{Copied}
-use Rattle.elimination.proofs.Words.{written_none, written_more}
 use Rattle.reduction.proofs.copy_words.Given as goal
 
 abbrev pub invariant-loop-k : goal.invariant-loop-k

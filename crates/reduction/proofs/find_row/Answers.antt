@@ -1,9 +1,6 @@
-use mathlib.Core.Path.{◌≡◌, sym, ◌∙◌}
-use Prim.Native.Nat.{ℕ, ◌+◌, ◌*◌, ◌≤◌, ◌<◌, ◌-◌, ◌/◌}
+use mathlib.Core.Path.{sym, ◌∙◌}
+use Prim.Native.Nat.{◌+◌, ◌*◌, ◌<◌, ◌/◌}
 use native.Mathlib.Omega.{arith}
-use borrow.Author.Rules.{rules}
-use mathlib.Core.Bool.{false}
-use Rattle.elimination.specs.Rows.{rows_of}
 use Rattle.reduction.proofs.Columns.{held, held_more}
 use Rattle.reduction.proofs.find_row.Goals as goal
 

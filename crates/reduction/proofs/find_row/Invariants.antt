@@ -1,11 +1,8 @@
 -- `reduction::find_row` meets its contract. The loop's invariant: no row from `from` to p has the bit c.
-use mathlib.Core.Path.{◌≡◌, sym, ◌∙◌}
-use Prim.Native.Nat.{ℕ, ◌+◌, ◌*◌, ◌≤◌, ◌<◌, ◌-◌, ◌/◌}
-use native.Mathlib.Omega.{arith}
-use borrow.Author.Rules.{rules}
+use mathlib.Core.Path.{◌≡◌}
+use Prim.Native.Nat.{ℕ, ◌≤◌, ◌<◌, ◌-◌}
 use mathlib.Core.Bool.{false}
 use Rattle.elimination.specs.Rows.{rows_of}
-use Rattle.reduction.proofs.Columns.{held, held_more}
 use Rattle.reduction.proofs.find_row.Given as goal
 
 abbrev pub invariant-loop-p : goal.invariant-loop-p

@@ -1,11 +1,10 @@
 use mathlib.Core.Path.{◌≡◌}
-use Prim.Native.Nat.{◌+◌, ◌*◌, ◌≤◌, ◌-◌}
+use Prim.Native.Nat.{◌+◌, ◌*◌, ◌≤◌}
 use native.Mathlib.Omega.{arith}
 use lib.ListN.{length}
 use borrow.Author.Rules.{rules}
 use native.Mathlib.Nat.{mul-le-mul_left}
 use Rattle.elimination.proofs.Words.{row_end}
-use Rattle.reduction.specs.Packs.{Moved}
 use Rattle.reduction.proofs.Packs.{moved_none, moved_more}
 use Rattle.reduction.proofs.move_rows.Goals as goal
 

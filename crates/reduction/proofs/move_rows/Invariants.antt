@@ -1,13 +1,6 @@
 -- `reduction::move_rows` meets its contract. The loop's invariant: the rows below p are moved.
-use mathlib.Core.Path.{◌≡◌}
-use Prim.Native.Nat.{◌+◌, ◌*◌, ◌≤◌, ◌-◌}
-use native.Mathlib.Omega.{arith}
-use lib.ListN.{length}
-use borrow.Author.Rules.{rules}
-use native.Mathlib.Nat.{mul-le-mul_left}
-use Rattle.elimination.proofs.Words.{row_end}
+use Prim.Native.Nat.{◌≤◌, ◌-◌}
 use Rattle.reduction.specs.Packs.{Moved}
-use Rattle.reduction.proofs.Packs.{moved_none, moved_more}
 use Rattle.reduction.proofs.move_rows.Given as goal
 
 abbrev pub invariant-loop-p : goal.invariant-loop-p

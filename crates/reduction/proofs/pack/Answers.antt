@@ -1,5 +1,4 @@
 -- `reduction::pack` meets its contract.
-use borrow.Author.Rules.{rules}
 use Rattle.reduction.proofs.Packs.{packed}
 use Rattle.reduction.proofs.pack.Goals as goal
 

@@ -1,10 +1,8 @@
 use mathlib.Core.Path.{◌≡◌}
-use Prim.Native.Nat.{◌≤◌, ◌<◌, ◌-◌}
+use Prim.Native.Nat.{◌<◌}
 use native.Mathlib.Omega.{arith}
-use borrow.Author.Rules.{rules}
-use mathlib.Core.Logic.{⊎_elim}
 use Rattle.elimination.specs.declared.Found.TheVariants.{At}
-use Rattle.reduction.specs.Columns.{Holder, ReducedForm}
+use Rattle.reduction.specs.Columns.{Holder}
 use Rattle.reduction.proofs.Columns.{form_start, form_pass, form_turn}
 use Rattle.reduction.proofs.reduce.Goals as goal
 use Rattle.reduction.proofs.reduce.Goals.{in-At, in-Nothing}
@@ -36,7 +34,7 @@ loop-c-preserved c =
     let l = c.loop-c in
     let h = c.loop-c-test.true in
     elim c.match-find_row.branch [
-      in-At w ↦ (
+      | in-At w ↦ (
         omega arith,
         rw (w.buf-is, w.rank-is)
             (form_turn _ _ _ _ _ _ _ l.invariant.1 (omega (arith, h, c.requires.2)) _ w.in-At.ensures _ w.take_pivot.ensures),

@@ -1,6 +1,5 @@
 -- `reduction::take_pivot` meets its contract.
 use native.Mathlib.Omega.{arith}
-use borrow.Author.Rules.{rules}
 use Rattle.elimination.proofs.Words.{row_end}
 use Rattle.reduction.proofs.Columns.{pivoted, brought_zero}
 use mathlib.Core.Path.{◌∙◌}

@@ -2,7 +2,6 @@ use Rattle.running.proofs.PrepareLaws.{last_kind}
 use Rattle.running.proofs.PrepareLaws.{for_one, for_two, for_three, for_four}
 use mathlib.Core.Path.{refl}
 use native.Mathlib.Omega.{arith}
-use borrow.Author.Rules.{rules}
 use Rattle.running.proofs.prepare.Goals as goal
 
 pub of_tausworthe-requires : goal.of_tausworthe-requires

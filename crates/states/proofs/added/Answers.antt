@@ -1,7 +1,6 @@
 use Rattle.document.specs.Limits.{row_words}
-use Rattle.states.proofs.StateLaws.{Adding, adding_start, adding_step, adding_end}
+use Rattle.states.proofs.StateLaws.{adding_start, adding_step, adding_end}
 use mathlib.Core.Path.{◌≡◌, refl}
-use Prim.Native.Nat.{◌≤◌, ◌-◌}
 use native.Mathlib.Omega.{arith}
 use borrow.Author.Rules.{rules}
 use Rattle.states.proofs.added.Goals as goal

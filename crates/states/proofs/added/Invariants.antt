@@ -1,9 +1,6 @@
 use Rattle.document.specs.Limits.{row_words}
-use Rattle.states.proofs.StateLaws.{Adding, adding_start, adding_step, adding_end}
-use mathlib.Core.Path.{◌≡◌, refl}
+use Rattle.states.proofs.StateLaws.{Adding}
 use Prim.Native.Nat.{◌≤◌, ◌-◌}
-use native.Mathlib.Omega.{arith}
-use borrow.Author.Rules.{rules}
 use Rattle.states.proofs.added.Given as goal
 
 abbrev pub invariant-loop-i : goal.invariant-loop-i

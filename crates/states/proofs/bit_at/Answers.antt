@@ -1,6 +1,5 @@
 use Rattle.digits.specs.Def.{bits_of}
 use Rattle.digits.specs.Parity.{digit_test}
-use borrow.Author.Rules.{rules}
 use Rattle.states.proofs.bit_at.Goals as goal
 
 pub returns : goal.returns

@@ -2,9 +2,9 @@ use Rattle.document.specs.Limits.{row_words}
 use lib.ListN.{replicate}
 use mir.Syntax.{w64}
 use mir.Val.{Fits}
-use Rattle.states.proofs.StateLaws.{Lowering, lowering_start, lowering_step, lowering_end}
+use Rattle.states.proofs.StateLaws.{lowering_start, lowering_step, lowering_end}
 use mathlib.Core.Path.{◌≡◌, refl}
-use Prim.Native.Nat.{◌≤◌, ◌-◌}
+use Prim.Native.Nat.{◌-◌}
 use native.Mathlib.Omega.{arith}
 use lib.ListN.{get_or}
 use borrow.Author.Rules.{rules}

@@ -1,13 +1,6 @@
 use Rattle.document.specs.Limits.{row_words}
-use lib.ListN.{replicate}
-use mir.Syntax.{w64}
-use mir.Val.{Fits}
-use Rattle.states.proofs.StateLaws.{Lowering, lowering_start, lowering_step, lowering_end}
-use mathlib.Core.Path.{◌≡◌, refl}
+use Rattle.states.proofs.StateLaws.{Lowering}
 use Prim.Native.Nat.{◌≤◌, ◌-◌}
-use native.Mathlib.Omega.{arith}
-use lib.ListN.{get_or}
-use borrow.Author.Rules.{rules}
 use Rattle.states.proofs.lowered.Given as goal
 
 abbrev pub invariant-loop-i : goal.invariant-loop-i

@@ -1,9 +1,8 @@
 use Rattle.document.specs.Limits.{row_words}
 use mir.Syntax.{w64}
 use mir.Val.{Fits}
-use Rattle.states.proofs.StateLaws.{Summing, summing_start, summing_step, summing_end}
+use Rattle.states.proofs.StateLaws.{summing_start, summing_step, summing_end}
 use mathlib.Core.Path.{◌≡◌}
-use Prim.Native.Nat.{◌≤◌, ◌-◌}
 use native.Mathlib.Omega.{arith}
 use lib.ListN.{get_or}
 use borrow.Author.Rules.{rules}

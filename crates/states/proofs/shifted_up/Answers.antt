@@ -1,9 +1,8 @@
 use Rattle.document.specs.Limits.{row_words}
 use mir.Syntax.{w64}
 use mir.Val.{Fits}
-use Rattle.states.proofs.StateLaws.{Rising, rising_start, rising_step}
+use Rattle.states.proofs.StateLaws.{rising_start, rising_step}
 use mathlib.Core.Path.{◌≡◌, refl}
-use Prim.Native.Nat.{◌≤◌, ◌-◌}
 use native.Mathlib.Omega.{arith}
 use lib.ListN.{get_or}
 use borrow.Author.Rules.{rules}

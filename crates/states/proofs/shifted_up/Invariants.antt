@@ -1,12 +1,6 @@
 use Rattle.document.specs.Limits.{row_words}
-use mir.Syntax.{w64}
-use mir.Val.{Fits}
-use Rattle.states.proofs.StateLaws.{Rising, rising_start, rising_step}
-use mathlib.Core.Path.{◌≡◌, refl}
+use Rattle.states.proofs.StateLaws.{Rising}
 use Prim.Native.Nat.{◌≤◌, ◌-◌}
-use native.Mathlib.Omega.{arith}
-use lib.ListN.{get_or}
-use borrow.Author.Rules.{rules}
 use Rattle.states.proofs.shifted_up.Given as goal
 
 abbrev pub invariant-loop-i : goal.invariant-loop-i

@@ -1,9 +1,8 @@
 use Rattle.tables.proofs.Laws.{more, lacks}
-use Prim.Native.Nat.{◌+◌, ◌*◌, ◌/◌, ◌≤◌, ◌-◌}
+use Prim.Native.Nat.{◌+◌, ◌/◌, ◌-◌}
 use native.Mathlib.Nat.{div-le_self}
-use Rattle.document.specs.Limits.{most_bits}
 use Rattle.document.specs.Report.{total}
-use mathlib.Core.Path.{◌≡◌, ap, ◌∙◌}
+use mathlib.Core.Path.{ap, ◌∙◌}
 use native.Mathlib.Omega.{arith}
 use lib.ListN.{get_or}
 use borrow.Author.Rules.{rules}

@@ -1,13 +1,9 @@
 -- `tables::dimension_sum` meets its contract. The loop's invariant: the sum is that of the gaps of the resolutions 1 to i, each at most k.
-use Rattle.tables.proofs.Laws.{more, lacks}
-use Prim.Native.Nat.{◌+◌, ◌*◌, ◌/◌, ◌≤◌, ◌-◌}
-use native.Mathlib.Nat.{div-le_self}
+use Prim.Native.Nat.{◌*◌, ◌/◌, ◌≤◌, ◌-◌}
 use Rattle.document.specs.Limits.{most_bits}
 use Rattle.document.specs.Report.{total}
-use mathlib.Core.Path.{◌≡◌, ap, ◌∙◌}
-use native.Mathlib.Omega.{arith}
+use mathlib.Core.Path.{◌≡◌}
 use lib.ListN.{get_or}
-use borrow.Author.Rules.{rules}
 use Rattle.tables.proofs.dimension_sum.Given as goal
 
 abbrev pub invariant-loop-i : goal.invariant-loop-i

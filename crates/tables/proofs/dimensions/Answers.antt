@@ -1,6 +1,5 @@
 use mathlib.Core.Bool.{Bool}
-use Prim.Native.Nat.{ℕ, ◌+◌, ◌/◌, ◌≤◌, ◌<◌, ◌-◌}
-use mathlib.Core.Logic.{⊎_elim}
+use Prim.Native.Nat.{ℕ, ◌+◌}
 use borrow.Author.Count.{below_none}
 use native.Mathlib.Nat.{div-le_self}
 use Rattle.document.specs.Limits.{most_output}
@@ -9,7 +8,7 @@ use Rattle.tables.specs.Tables.{says, dimension_of}
 use Rattle.tables.proofs.Laws.{zeros, stored_below, stored_above, step, stop, none}
 use mathlib.Core.Path.{◌≡◌, refl, sym, ap, ◌∙◌}
 use native.Mathlib.Omega.{arith}
-use lib.ListN.{length, get_or, length-set}
+use lib.ListN.{length-set}
 use borrow.Author.Rules.{rules}
 use Rattle.tables.proofs.dimensions.Goals as goal
 use Rattle.tables.proofs.dimensions.Goals.{else-dimensions-test, then-dimensions-test+then-yes}

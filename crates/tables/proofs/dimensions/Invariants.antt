@@ -1,17 +1,10 @@
 -- `tables::dimensions` meets its contract. As `resolutions`, with dimensions and resolutions exchanged.
-use mathlib.Core.Bool.{Bool}
 use Prim.Native.Nat.{ℕ, ◌+◌, ◌/◌, ◌≤◌, ◌<◌, ◌-◌}
-use mathlib.Core.Logic.{⊎_elim}
-use borrow.Author.Count.{below_none}
-use native.Mathlib.Nat.{div-le_self}
 use Rattle.document.specs.Limits.{most_output}
 use Rattle.document.specs.Report.{largest}
 use Rattle.tables.specs.Tables.{says, dimension_of}
-use Rattle.tables.proofs.Laws.{zeros, stored_below, stored_above, step, stop, none}
-use mathlib.Core.Path.{◌≡◌, refl, sym, ap, ◌∙◌}
-use native.Mathlib.Omega.{arith}
-use lib.ListN.{length, get_or, length-set}
-use borrow.Author.Rules.{rules}
+use mathlib.Core.Path.{◌≡◌}
+use lib.ListN.{length, get_or}
 use Rattle.tables.proofs.dimensions.Given as goal
 
 abbrev pub invariant-dimensions : goal.invariant-dimensions

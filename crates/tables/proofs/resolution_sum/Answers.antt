@@ -1,8 +1,7 @@
 use Rattle.tables.proofs.Laws.{more, lacks}
-use Prim.Native.Nat.{◌*◌, ◌/◌, ◌≤◌, ◌-◌, min}
-use Rattle.document.specs.Limits.{most_output}
+use Prim.Native.Nat.{◌/◌, ◌-◌, min}
 use Rattle.document.specs.Report.{total}
-use mathlib.Core.Path.{◌≡◌, ap, ◌∙◌}
+use mathlib.Core.Path.{ap, ◌∙◌}
 use native.Mathlib.Omega.{arith}
 use lib.ListN.{get_or}
 use borrow.Author.Rules.{rules}

@@ -1,12 +1,9 @@
 -- `tables::resolution_sum` meets its contract. The loop's invariant: the sum is that of the gaps of the dimensions 1 to i, each at most the width.
-use Rattle.tables.proofs.Laws.{more, lacks}
 use Prim.Native.Nat.{◌*◌, ◌/◌, ◌≤◌, ◌-◌, min}
 use Rattle.document.specs.Limits.{most_output}
 use Rattle.document.specs.Report.{total}
-use mathlib.Core.Path.{◌≡◌, ap, ◌∙◌}
-use native.Mathlib.Omega.{arith}
+use mathlib.Core.Path.{◌≡◌}
 use lib.ListN.{get_or}
-use borrow.Author.Rules.{rules}
 use Rattle.tables.proofs.resolution_sum.Given as goal
 
 abbrev pub invariant-loop-i : goal.invariant-loop-i

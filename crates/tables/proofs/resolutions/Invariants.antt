@@ -1,17 +1,11 @@
 -- `tables::resolutions` meets its contract. The inner loop keeps that the largest resolution is still to be found from l down; the outer, that the
 -- entries before i are those of the dimensions 1 to i, and that zeros follow.
-use mathlib.Core.Bool.{Bool}
 use Prim.Native.Nat.{ℕ, ◌+◌, ◌/◌, ◌≤◌, ◌<◌, ◌-◌, min}
-use mathlib.Core.Logic.{⊎_elim}
-use borrow.Author.Count.{below_none}
 use Rattle.document.specs.Limits.{most_bits}
 use Rattle.document.specs.Report.{largest}
 use Rattle.tables.specs.Tables.{says, resolution_of}
-use Rattle.tables.proofs.Laws.{zeros, stored_below, stored_above, step, stop, none}
-use mathlib.Core.Path.{◌≡◌, refl, sym, ap, ◌∙◌}
-use native.Mathlib.Omega.{arith}
-use lib.ListN.{length, get_or, length-set}
-use borrow.Author.Rules.{rules}
+use mathlib.Core.Path.{◌≡◌}
+use lib.ListN.{length, get_or}
 use Rattle.tables.proofs.resolutions.Given as goal
 
 abbrev pub invariant-resolutions : goal.invariant-resolutions

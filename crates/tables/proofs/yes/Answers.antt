@@ -2,7 +2,6 @@
 use native.Mathlib.Nat.{mul-le-mul}
 use mir.Facts.{Fits-le, Fits-lit}
 use Rattle.tables.specs.Tables.{says}
-use Prim.Native.Nat.{◌-◌}
 use borrow.Author.Rules.{rules}
 use Rattle.tables.proofs.yes.Goals as goal
 

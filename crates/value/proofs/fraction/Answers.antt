@@ -1,10 +1,10 @@
 use mathlib.Core.Path.{subst}
 use mathlib.Core.Bool.{false}
-use Prim.Native.Nat.{◌^◌, ℕ, ◌≤◌, ◌-◌}
+use Prim.Native.Nat.{◌^◌, ℕ, ◌≤◌}
 use lib.Dec.{le→leb}
 use lib.Pow.{pow_mono, pow_pos}
 use lib.IntN.{pos}
-use lib.Ieee.{in_float, of_int, of_bits, binary64}
+use lib.Ieee.{in_float, of_int, binary64}
 use lib.Ieee.Exact.{HasValue}
 use lib.Ieee.Fits.{div-fits}
 use lib.Ieee.Bits.{of_bits-fits}
@@ -13,7 +13,6 @@ use Rattle.value.specs.Exact.{div_exact, whole_value}
 use Rattle.value.specs.Unique.{unique}
 use Rattle.value.specs.Theorems.{value_exact}
 use native.Mathlib.Omega.{arith}
-use borrow.Author.Rules.{rules}
 use Rattle.value.proofs.fraction.Goals as goal
 
 pub int_to_float-result : goal.int_to_float-result

@@ -1,10 +1,9 @@
 use lib.Pow.{shl_exact}
 use lib.Dec.{lit<}
 use native.Mathlib.Nat.{one-mul}
-use Prim.Native.Nat.{◌^◌, ◌<◌, ◌-◌}
+use Prim.Native.Nat.{◌^◌}
 use mathlib.Core.Path.{◌∙◌}
 use native.Mathlib.Omega.{arith}
-use borrow.Author.Rules.{rules}
 use Rattle.value.proofs.power.Goals as goal
 
 pub returns : goal.returns

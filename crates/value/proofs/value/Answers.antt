@@ -1,7 +1,5 @@
 use Rattle.value.specs.Theorems.{value_accepted}
 use mathlib.Core.Path.{refl, sym, ◌∙◌}
-use Prim.Native.Nat.{◌-◌}
-use borrow.Author.Rules.{rules}
 use Rattle.value.proofs.value.Goals as goal
 
 pub returns-then-refusal-ne0 : goal.returns-then-refusal-ne0

@@ -1,11 +1,9 @@
-use Rattle.document.specs.Refusals.{outside, value_refusal}
+use Rattle.document.specs.Refusals.{value_refusal}
 use Rattle.document.specs.Lowest.{gives, skips, none_left}
 use Rattle.document.specs.Ranges.{inside}
 use mathlib.Core.Bool.{not}
 use borrow.Author.Tests.{lt-ltb, le-ltb}
 use mathlib.Core.Path.{refl, sym, ap, ◌∙◌}
-use Prim.Native.Nat.{◌-◌}
-use borrow.Author.Rules.{rules}
 use Rattle.value.proofs.value_refusal.Goals as goal
 
 pub returns-then-outside : goal.returns-then-outside

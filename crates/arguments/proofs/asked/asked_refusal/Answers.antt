@@ -1,6 +1,5 @@
 -- `arguments::asked_refusal`: the fields' chain, and where that gives none, the pair's.
-use mathlib.Core.Path.{◌≡◌, sym, ap, ◌∙◌}
-use borrow.Author.Rules.{rules}
+use mathlib.Core.Path.{sym, ap, ◌∙◌}
 use Rattle.document.specs.Refusals.{lowest, pair_cases}
 use Rattle.document.specs.Lowest.{fields_first, fields_then}
 use Rattle.document.specs.Theorems.{ranges}

@@ -1,5 +1,4 @@
 -- `arguments::pair_refusal`: a test for each case, in the list's order.
-use borrow.Author.Rules.{rules}
 use Rattle.document.specs.Lowest.{gives, skips, none_left}
 use Rattle.arguments.proofs.refusals.pair_refusal.Goals as goal
 

@@ -1,5 +1,4 @@
 -- `arguments::state_refusal`: one test, one case.
-use borrow.Author.Rules.{rules}
 use Rattle.document.specs.Lowest.{gives, skips, none_left}
 use Rattle.arguments.proofs.refusals.state_refusal.Goals as goal
 

@@ -1,7 +1,6 @@
 -- `arguments::size`: a column of the kind's machine for each branch.
 use mathlib.Core.Path.{sym}
 use native.Mathlib.Omega.{arith}
-use borrow.Author.Rules.{rules}
 use Rattle.arguments.specs.StateBits.{size_one, size_words, size-four, few_bits, p_fits}
 use Rattle.arguments.proofs.sizes.size.Goals as goal
 

@@ -1,6 +1,5 @@
 -- `arguments::sized`: the fields' own refusal, and then k.
 use mathlib.Core.Path.{sym, ◌∙◌}
-use borrow.Author.Rules.{rules}
 use Rattle.document.specs.Theorems.{ranges}
 use Rattle.arguments.proofs.sizes.sized.Goals as goal
 

@@ -1,9 +1,9 @@
 use Rattle.description.proofs.Laws.{stored, part_is}
 use Rattle.document.specs.Limits.{coefficient_bytes}
-use mathlib.Core.Path.{◌≡◌, refl}
-use Prim.Native.Nat.{ℕ, ◌+◌, ◌≤◌, ◌<◌, ◌-◌}
+use mathlib.Core.Path.{refl}
+use Prim.Native.Nat.{◌+◌}
 use native.Mathlib.Omega.{arith}
-use lib.ListN.{length, get_or, set, length-set}
+use lib.ListN.{get_or, length-set}
 use borrow.Author.Rules.{rules}
 use Rattle.description.proofs.numbers.coefficients.Goals as goal
 

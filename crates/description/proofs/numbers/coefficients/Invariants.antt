@@ -1,10 +1,7 @@
-use Rattle.description.proofs.Laws.{stored, part_is}
 use Rattle.document.specs.Limits.{coefficient_bytes}
-use mathlib.Core.Path.{◌≡◌, refl}
+use mathlib.Core.Path.{◌≡◌}
 use Prim.Native.Nat.{ℕ, ◌+◌, ◌≤◌, ◌<◌, ◌-◌}
-use native.Mathlib.Omega.{arith}
-use lib.ListN.{length, get_or, set, length-set}
-use borrow.Author.Rules.{rules}
+use lib.ListN.{length, get_or}
 use Rattle.description.proofs.numbers.coefficients.Given as goal
 
 abbrev pub invariant-loop-i : goal.invariant-loop-i

@@ -1,6 +1,4 @@
 use Rattle.description.proofs.Laws.{two_bytes}
-use Prim.Native.Nat.{◌-◌}
-use borrow.Author.Rules.{rules}
 use Rattle.description.proofs.numbers.number2.Goals as goal
 
 pub returns : goal.returns

@@ -1,6 +1,4 @@
 use Rattle.description.proofs.Laws.{four_bytes}
-use Prim.Native.Nat.{◌-◌}
-use borrow.Author.Rules.{rules}
 use Rattle.description.proofs.numbers.number4.Goals as goal
 
 pub returns : goal.returns

@@ -1,9 +1,7 @@
 use Rattle.document.specs.Ranges.{is_one, is_two, is_three, is_four}
 use mathlib.Core.Path.{◌≡◌, ◌∙◌}
-use Prim.Native.Nat.{◌-◌}
 use native.Mathlib.Omega.{arith}
 use lib.ListN.{get_or}
-use borrow.Author.Rules.{rules}
 use Rattle.description.proofs.reading.fields_of.Goals as goal
 
 pub tausworthe-requires : goal.tausworthe-requires

@@ -1,11 +1,9 @@
 use Rattle.description.proofs.Laws.{read_empty, read_kind, read_length, read_range, refused_as, accepted_as}
-use Rattle.document.specs.Refusals.{range_refusal, outside}
+use Rattle.document.specs.Refusals.{range_refusal}
 use Rattle.document.specs.Ranges.{inside}
 use mathlib.Core.Path.{sym, ap, ◌∙◌}
-use Prim.Native.Nat.{◌-◌}
 use native.Mathlib.Omega.{arith}
-use lib.ListN.{length, get_or}
-use borrow.Author.Rules.{rules}
+use lib.ListN.{get_or}
 use Rattle.description.proofs.reading.read.Goals as goal
 
 pub returns-then-n-eq0 : goal.returns-then-n-eq0

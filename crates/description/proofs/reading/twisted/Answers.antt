@@ -1,9 +1,7 @@
 use Rattle.document.specs.Description.{fields_of}
 use Rattle.document.specs.Ranges.{is_three}
 use mathlib.Core.Path.{sym, ◌∙◌}
-use Prim.Native.Nat.{◌-◌}
 use lib.ListN.{get_or}
-use borrow.Author.Rules.{rules}
 use Rattle.description.proofs.reading.twisted.Goals as goal
 
 pub returns : goal.returns

@@ -1,7 +1,5 @@
 use mathlib.Core.List.{[], ◌∷◌}
 use Rattle.document.specs.Description.{bytes}
-use Prim.Native.Nat.{◌-◌}
-use borrow.Author.Rules.{rules}
 use Rattle.description.proofs.writing.head.Goals as goal
 
 pub returns : goal.returns

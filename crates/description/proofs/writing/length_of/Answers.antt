@@ -1,7 +1,5 @@
 use Rattle.document.specs.Ranges.{is_one, is_two, is_three, is_other}
 use mathlib.Core.Path.{sym}
-use Prim.Native.Nat.{◌-◌}
-use lib.ListN.{length}
 use Rattle.description.proofs.writing.length_of.Goals as goal
 
 pub returns-then-kind-eq1 : goal.returns-then-kind-eq1

@@ -1,8 +1,7 @@
 use mathlib.Core.List.{◌++◌}
 use Rattle.description.proofs.Laws.{stored, filled_is}
-use lib.ListN.{length-append, length, get_or, set, length-set}
-use mathlib.Core.Path.{◌≡◌, refl, ap}
-use Prim.Native.Nat.{ℕ, ◌+◌, ◌≤◌, ◌<◌, ◌-◌}
+use lib.ListN.{length-append, length, get_or, length-set}
+use mathlib.Core.Path.{◌≡◌, refl}
 use native.Mathlib.Omega.{arith}
 use borrow.Author.Rules.{rules}
 use Rattle.description.proofs.writing.long.Goals as goal

@@ -1,10 +1,7 @@
 use mathlib.Core.List.{◌++◌}
-use Rattle.description.proofs.Laws.{stored, filled_is}
-use lib.ListN.{length-append, length, get_or, set, length-set}
-use mathlib.Core.Path.{◌≡◌, refl, ap}
-use Prim.Native.Nat.{ℕ, ◌+◌, ◌≤◌, ◌<◌, ◌-◌}
-use native.Mathlib.Omega.{arith}
-use borrow.Author.Rules.{rules}
+use lib.ListN.{length, get_or}
+use mathlib.Core.Path.{◌≡◌}
+use Prim.Native.Nat.{ℕ, ◌≤◌, ◌<◌, ◌-◌}
 use Rattle.description.proofs.writing.long.Given as goal
 
 abbrev pub invariant-loop-i : goal.invariant-loop-i

@@ -2,7 +2,6 @@ use Rattle.description.proofs.Laws.{put_is}
 use Rattle.document.specs.Description.{length_of}
 use Rattle.document.specs.Ranges.{is_one, is_two, is_three, is_other}
 use mathlib.Core.Path.{◌≡◌, sym, ◌∙◌}
-use Prim.Native.Nat.{◌-◌}
 use native.Mathlib.Omega.{arith}
 use lib.ListN.{length}
 use borrow.Author.Rules.{rules}

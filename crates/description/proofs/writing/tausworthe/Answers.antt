@@ -2,8 +2,6 @@ use mathlib.Core.List.{◌∷◌, ◌++◌}
 use Rattle.document.specs.Description.{bytes, description}
 use Rattle.document.specs.Ranges.{is_one}
 use mathlib.Core.Path.{sym, ap, ◌∙◌}
-use Prim.Native.Nat.{◌+◌, ◌-◌}
-use borrow.Author.Rules.{rules}
 use Rattle.description.proofs.writing.tausworthe.Goals as goal
 
 pub returns : goal.returns

@@ -1,8 +1,5 @@
 use Rattle.description.proofs.Laws.{write_accepted}
 use mathlib.Core.Path.{refl, sym, ◌∙◌}
-use Prim.Native.Nat.{◌-◌}
-use lib.ListN.{length}
-use borrow.Author.Rules.{rules}
 use Rattle.description.proofs.writing.write.Goals as goal
 
 pub put-requires : goal.put-requires

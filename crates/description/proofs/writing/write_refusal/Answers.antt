@@ -2,9 +2,6 @@ use Rattle.document.specs.Refusals.{field_cases, write_refusal, field_refusal}
 use Rattle.document.specs.Lowest.{gives, skips, none_left, first_of, then_of, field_rises}
 use borrow.Author.Tests.{lt-ltb, le-ltb}
 use mathlib.Core.Path.{refl, sym, ◌∙◌}
-use Prim.Native.Nat.{◌-◌}
-use lib.ListN.{length}
-use borrow.Author.Rules.{rules}
 use Rattle.description.proofs.writing.write_refusal.Goals as goal
 
 pub returns-then-refusal-ne0 : goal.returns-then-refusal-ne0

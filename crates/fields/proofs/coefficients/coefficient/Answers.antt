@@ -3,7 +3,6 @@ use Rattle.digits.specs.Def.{digit}
 use Rattle.digits.specs.Parity.{digit_test}
 use Prim.Native.Nat.{◌%◌, ◌-◌}
 use mathlib.Core.Path.{ap, ◌∙◌}
-use borrow.Author.Rules.{rules}
 use Rattle.fields.proofs.coefficients.coefficient.Goals as goal
 
 pub returns : goal.returns

@@ -1,13 +1,10 @@
 use Rattle.document.specs.Generator.{coefficient}
-use Rattle.document.specs.Refusals.{any, coefficient_past}
+use Rattle.document.specs.Refusals.{any}
 use Rattle.document.specs.Limits.{coefficient_bytes}
-use Rattle.document.specs.Ranges.{any_next, any_found}
 use mathlib.Core.Bool.{not, false, ◌&&◌}
 use lib.Dec.{ltb}
-use mathlib.Core.Path.{◌≡◌, refl, sym, ◌∙◌}
+use mathlib.Core.Path.{◌≡◌}
 use Prim.Native.Nat.{◌*◌, ◌≤◌, ◌-◌}
-use native.Mathlib.Omega.{arith}
-use borrow.Author.Rules.{rules}
 use Rattle.fields.proofs.coefficients.coefficient_past.Given as goal
 
 abbrev pub invariant-loop-i : goal.invariant-loop-i

@@ -2,8 +2,6 @@ use Rattle.document.specs.Generator.{coefficient}
 use mathlib.Core.Bool.{not, ◌&&◌}
 use borrow.Author.Tests.{lt-ltb, le-ltb}
 use mathlib.Core.Path.{sym, ap, ◌∙◌}
-use Prim.Native.Nat.{◌-◌}
-use borrow.Author.Rules.{rules}
 use Rattle.fields.proofs.coefficients.late_coefficient.Goals as goal
 
 pub returns-then-i-n : goal.returns-then-i-n

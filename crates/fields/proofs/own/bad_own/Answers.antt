@@ -1,7 +1,5 @@
-use Rattle.fields.proofs.Laws.{taken, in_one, in_two, in_twist}
+use Rattle.fields.proofs.Laws.{in_one, in_two, in_twist}
 use Rattle.document.specs.Refusals.{bad_own}
-use Prim.Native.Nat.{◌-◌}
-use borrow.Author.Rules.{rules}
 use Rattle.fields.proofs.own.bad_own.Goals as goal
 
 pub returns-then-kind-eq1 : goal.returns-then-kind-eq1

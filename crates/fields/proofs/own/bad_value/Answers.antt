@@ -1,7 +1,5 @@
 use Rattle.fields.proofs.Laws.{taken, passed}
 use Rattle.document.specs.Refusals.{bad_value}
-use Prim.Native.Nat.{◌-◌}
-use borrow.Author.Rules.{rules}
 use Rattle.fields.proofs.own.bad_value.Goals as goal
 
 pub returns-then-bad_own : goal.returns-then-bad_own

@@ -1,8 +1,8 @@
-use Rattle.fields.proofs.Laws.{taken, small_below}
+use Rattle.fields.proofs.Laws.{small_below}
 use lib.Pow.{shl_exact}
 use lib.Dec.{lit<, ltb}
 use native.Mathlib.Nat.{one-mul}
-use Prim.Native.Nat.{◌^◌, ◌<◌, ◌-◌}
+use Prim.Native.Nat.{◌^◌}
 use mathlib.Core.Path.{sym, ap, ◌∙◌}
 use native.Mathlib.Omega.{arith}
 use borrow.Author.Rules.{rules}

@@ -1,7 +1,5 @@
-use Rattle.fields.proofs.Laws.{taken, passed, set_taken, set_passed, nonzero_test}
+use Rattle.fields.proofs.Laws.{set_taken, set_passed, nonzero_test}
 use Rattle.document.specs.Refusals.{one_set}
-use Prim.Native.Nat.{zero, ◌-◌}
-use lib.ListN.{set}
 use Rattle.fields.proofs.own.one_set.Goals as goal
 
 pub returns-then-x-ne0 : goal.returns-then-x-ne0

@@ -1,8 +1,5 @@
 use Rattle.fields.proofs.Laws.{taken, passed, in_one, in_two, in_three, in_other, set_taken, set_passed}
 use Rattle.document.specs.Refusals.{stray_field}
-use Prim.Native.Nat.{◌-◌}
-use lib.ListN.{set}
-use borrow.Author.Rules.{rules}
 use Rattle.fields.proofs.own.stray_field.Goals as goal
 
 pub returns-then-kind-eq1 : goal.returns-then-kind-eq1

@@ -1,7 +1,4 @@
-use Rattle.fields.proofs.Laws.{taken, passed, in_one, set_taken, set_passed}
-use Prim.Native.Nat.{◌-◌}
-use lib.ListN.{set}
-use borrow.Author.Rules.{rules}
+use Rattle.fields.proofs.Laws.{set_taken, set_passed}
 use Rattle.fields.proofs.own.stray_in_one.Goals as goal
 
 pub returns-then-g-ne0 : goal.returns-then-g-ne0

@@ -1,7 +1,5 @@
-use Rattle.fields.proofs.Laws.{taken, passed, set_taken, set_passed, nonzero_test}
+use Rattle.fields.proofs.Laws.{set_taken, set_passed, nonzero_test}
 use Rattle.document.specs.Refusals.{stray_one}
-use Prim.Native.Nat.{zero, ◌-◌}
-use lib.ListN.{set}
 use Rattle.fields.proofs.own.stray_one.Goals as goal
 
 pub returns-then-g-ne0 : goal.returns-then-g-ne0

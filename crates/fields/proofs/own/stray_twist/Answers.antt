@@ -1,8 +1,5 @@
 use Rattle.fields.proofs.Laws.{taken, passed, set_taken, set_passed}
 use Rattle.document.specs.Refusals.{stray_twist}
-use Prim.Native.Nat.{◌-◌}
-use lib.ListN.{set}
-use borrow.Author.Rules.{rules}
 use Rattle.fields.proofs.own.stray_twist.Goals as goal
 
 pub returns-then-one_set : goal.returns-then-one_set

@@ -1,9 +1,7 @@
-use Rattle.fields.proofs.Laws.{or_left, or_right, taken}
+use Rattle.fields.proofs.Laws.{or_left, or_right}
 use Rattle.document.specs.Refusals.{wide_word}
 use mathlib.Core.Bool.{not}
 use mathlib.Core.Path.{sym, ap, ◌∙◌}
-use Prim.Native.Nat.{◌-◌}
-use borrow.Author.Rules.{rules}
 use Rattle.fields.proofs.own.wide_word.Goals as goal
 
 pub returns-then-fits-2 : goal.returns-then-fits-2

@@ -1,7 +1,5 @@
 use Rattle.document.specs.Refusals.{outside, bad_bits}
 use mathlib.Core.Path.{ap, ◌∙◌}
-use Prim.Native.Nat.{◌-◌}
-use borrow.Author.Rules.{rules}
 use Rattle.fields.proofs.ranges.bad_bits.Goals as goal
 
 pub returns : goal.returns

@@ -1,7 +1,5 @@
 use Rattle.fields.proofs.Laws.{taken, passed}
-use Rattle.document.specs.Refusals.{outside, bad_pair}
-use Prim.Native.Nat.{◌-◌}
-use borrow.Author.Rules.{rules}
+use Rattle.document.specs.Refusals.{bad_pair}
 use Rattle.fields.proofs.ranges.bad_pair.Goals as goal
 
 pub returns-then-outside : goal.returns-then-outside

@@ -1,8 +1,6 @@
 use Rattle.fields.proofs.Laws.{taken, passed, in_one, in_two, in_three, in_other}
-use Rattle.document.specs.Refusals.{outside, bad_shift}
+use Rattle.document.specs.Refusals.{bad_shift}
 use mathlib.Core.Path.{refl}
-use Prim.Native.Nat.{◌-◌}
-use borrow.Author.Rules.{rules}
 use Rattle.fields.proofs.ranges.bad_shift.Goals as goal
 
 pub returns-then-kind-eq1 : goal.returns-then-kind-eq1

@@ -1,8 +1,6 @@
 use Rattle.fields.proofs.Laws.{or_left, or_right, taken, passed}
 use borrow.Author.Tests.{lt-ltb, le-ltb}
-use Rattle.document.specs.Refusals.{outside, bad_twist}
-use Prim.Native.Nat.{◌-◌}
-use borrow.Author.Rules.{rules}
+use Rattle.document.specs.Refusals.{bad_twist}
 use Rattle.fields.proofs.ranges.bad_twist.Goals as goal
 
 pub returns-then-bad_words : goal.returns-then-bad_words

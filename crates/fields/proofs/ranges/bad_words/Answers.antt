@@ -1,7 +1,6 @@
 use Rattle.fields.proofs.Laws.{taken, passed, below_product}
-use Rattle.document.specs.Refusals.{outside, bad_words}
+use Rattle.document.specs.Refusals.{bad_words}
 use mathlib.Core.Path.{refl}
-use Prim.Native.Nat.{◌-◌}
 use borrow.Author.Rules.{rules}
 use Rattle.fields.proofs.ranges.bad_words.Goals as goal
 

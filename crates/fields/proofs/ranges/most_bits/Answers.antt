@@ -1,7 +1,5 @@
-use Rattle.fields.proofs.Laws.{taken, in_one, in_rest}
+use Rattle.fields.proofs.Laws.{in_one, in_rest}
 use mathlib.Core.Path.{refl}
-use Prim.Native.Nat.{◌-◌}
-use borrow.Author.Rules.{rules}
 use Rattle.fields.proofs.ranges.most_bits.Goals as goal
 
 pub returns-then-g-eq1 : goal.returns-then-g-eq1

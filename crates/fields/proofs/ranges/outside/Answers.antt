@@ -1,8 +1,7 @@
-use Rattle.fields.proofs.Laws.{or_left, or_right, taken}
+use Rattle.fields.proofs.Laws.{or_left, or_right}
 use borrow.Author.Tests.{lt-ltb, le-ltb}
 use Rattle.document.specs.Refusals.{outside}
 use mathlib.Core.Path.{refl}
-use Prim.Native.Nat.{◌-◌}
 use Rattle.fields.proofs.ranges.outside.Goals as goal
 
 pub returns-then-x-low : goal.returns-then-x-low

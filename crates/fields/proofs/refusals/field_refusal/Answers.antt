@@ -1,7 +1,5 @@
 use Rattle.document.specs.Refusals.{range_refusal, field_refusal}
 use Rattle.document.specs.Lowest.{gives, skips}
-use Prim.Native.Nat.{◌-◌}
-use borrow.Author.Rules.{rules}
 use Rattle.fields.proofs.refusals.field_refusal.Goals as goal
 
 pub returns-then-outside : goal.returns-then-outside

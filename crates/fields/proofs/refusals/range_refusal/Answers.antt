@@ -1,7 +1,5 @@
 use Rattle.document.specs.Lowest.{none_left, gives, skips}
 use Rattle.document.specs.Refusals.{range_refusal}
-use Prim.Native.Nat.{◌-◌}
-use borrow.Author.Rules.{rules}
 use Rattle.fields.proofs.refusals.range_refusal.Goals as goal
 
 pub returns-then-bad_size : goal.returns-then-bad_size

@@ -4,7 +4,6 @@ use Rattle.listing_text.specs.Numbers.{read_small}
 use Rattle.listing_text.proofs.Text.{read_accepted, listing_refused, listed, listed_not, made}
 use Rattle.listing_text.specs.Text.{refused_line}
 use mathlib.Core.Path.{sym, ap, ◌∙◌}
-use Prim.Native.Nat.{◌-◌}
 use native.Mathlib.Omega.{arith}
 use borrow.Author.Rules.{rules}
 use Rattle.listing_text.proofs.calling.listing.Goals as goal

@@ -1,9 +1,7 @@
 -- `listing_text::lines::put_refused` meets its contract.
 use Rattle.listing_text.proofs.Laws.{wrote_then, wrote_wide}
 use Rattle.listing_text.specs.Text.{refused_line}
-use Prim.Native.Nat.{◌-◌}
 use native.Mathlib.Omega.{arith}
-use borrow.Author.Rules.{rules}
 use Rattle.listing_text.proofs.lines.put_refused.Goals as goal
 
 pub returns : goal.returns

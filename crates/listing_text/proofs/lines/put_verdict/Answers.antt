@@ -1,8 +1,6 @@
 -- `listing_text::lines::put_verdict` meets its contract.
 use Rattle.listing_text.proofs.Laws.{wrote_as}
-use Prim.Native.Nat.{◌-◌}
 use native.Mathlib.Omega.{arith}
-use borrow.Author.Rules.{rules}
 use Rattle.listing_text.proofs.lines.put_verdict.Goals as goal
 
 pub returns-then-me : goal.returns-then-me

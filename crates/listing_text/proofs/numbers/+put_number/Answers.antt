@@ -19,4 +19,4 @@ put_byte-requires-2 t c =
 pub returns : goal.returns
 returns t c =
     wrote_as {n = number_bytes} _ (ap (λ d. decimal (c.args.n / 10) ++ (d ∷ [])) c.digit-2.ensures ∙ sym (decimal_more _ (search rules) (search rules))) (decimal_few c.args.n)
-        (wrote_then c.put_number-end.ensures c.put_byte-2.ensures)
+    (wrote_then c.put_number-end.ensures c.put_byte-2.ensures)

@@ -1,7 +1,5 @@
 -- `listing_text::numbers::put_byte` meets its contract.
 use Rattle.listing_text.proofs.Laws.{wrote_byte}
-use Prim.Native.Nat.{◌-◌}
-use borrow.Author.Rules.{rules}
 use Rattle.listing_text.proofs.numbers.put_byte.Goals as goal
 
 pub returns : goal.returns

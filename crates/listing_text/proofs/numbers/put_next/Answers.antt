@@ -1,9 +1,7 @@
 -- `listing_text::numbers::put_next` meets its contract.
 use Rattle.listing_text.proofs.Laws.{wrote_then, wrote_wide}
 use Rattle.listing_text.specs.Text.{next}
-use Prim.Native.Nat.{◌-◌}
 use native.Mathlib.Omega.{arith}
-use borrow.Author.Rules.{rules}
 use Rattle.listing_text.proofs.numbers.put_next.Goals as goal
 
 pub returns : goal.returns

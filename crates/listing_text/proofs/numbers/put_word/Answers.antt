@@ -1,8 +1,5 @@
 use Rattle.listing_text.proofs.Laws.{wrote_none, word_more, wrote_word}
-use Rattle.listing_text.specs.Wrote.{Wrote}
-use lib.ListN.{take, length}
 use native.Mathlib.Nat.{add-zero}
-use Prim.Native.Nat.{◌+◌, ◌≤◌, ◌-◌}
 use native.Mathlib.Omega.{arith}
 use borrow.Author.Rules.{rules}
 use Rattle.listing_text.proofs.numbers.put_word.Goals as goal

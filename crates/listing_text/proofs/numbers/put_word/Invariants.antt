@@ -1,11 +1,7 @@
 -- `listing_text::numbers::put_word` meets its contract. The loop's invariant: the first i bytes of the word are written.
-use Rattle.listing_text.proofs.Laws.{wrote_none, word_more, wrote_word}
 use Rattle.listing_text.specs.Wrote.{Wrote}
 use lib.ListN.{take, length}
-use native.Mathlib.Nat.{add-zero}
 use Prim.Native.Nat.{◌+◌, ◌≤◌, ◌-◌}
-use native.Mathlib.Omega.{arith}
-use borrow.Author.Rules.{rules}
 use Rattle.listing_text.proofs.numbers.put_word.Given as goal
 
 abbrev pub invariant-loop-i : goal.invariant-loop-i

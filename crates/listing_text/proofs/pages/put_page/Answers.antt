@@ -2,9 +2,7 @@
 use mathlib.Core.Path.{ap₂}
 use Rattle.listing_text.specs.Text.{head_line, page_of}
 use Rattle.listing_text.proofs.Laws.{wrote_then, wrote_wide, wrote_is}
-use Prim.Native.Nat.{◌-◌}
 use native.Mathlib.Omega.{arith}
-use borrow.Author.Rules.{rules}
 use Rattle.listing_text.proofs.pages.put_page.Goals as goal
 
 pub returns : goal.returns

@@ -1,9 +1,7 @@
 -- `listing_text::table_lines::put_dimension` meets its contract.
-use Prim.Native.Nat.{◌-◌}
 use Rattle.listing_text.proofs.Laws.{wrote_is}
 use Rattle.listing_text.specs.Text.{dimension_line}
 use native.Mathlib.Omega.{arith}
-use borrow.Author.Rules.{rules}
 use Rattle.listing_text.proofs.table_lines.put_dimension.Goals as goal
 
 pub count-requires-2 : goal.count-requires-2

@@ -1,10 +1,8 @@
 -- `listing_text::table_lines::put_resolution` meets its contract.
-use Prim.Native.Nat.{◌-◌}
 use native.Mathlib.Nat.{div-le_self}
 use Rattle.listing_text.proofs.Laws.{wrote_is}
 use Rattle.listing_text.specs.Text.{resolution_line}
 use native.Mathlib.Omega.{arith}
-use borrow.Author.Rules.{rules}
 use Rattle.listing_text.proofs.table_lines.put_resolution.Goals as goal
 
 pub count-requires-2 : goal.count-requires-2

@@ -1,7 +1,6 @@
-use Prim.Native.Nat.{◌*◌, ◌≤◌, ◌-◌}
+use Prim.Native.Nat.{◌-◌}
 use Rattle.listing_text.proofs.Laws.{wrote_none, lines_none, lines_more, at_place}
-use Rattle.listing_text.specs.Text.{line_bytes, lines_to, resolution_line}
-use Rattle.listing_text.specs.Wrote.{Wrote}
+use Rattle.listing_text.specs.Text.{resolution_line}
 use mathlib.Core.Path.{◌≡◌}
 use native.Mathlib.Omega.{arith}
 use lib.ListN.{get_or}

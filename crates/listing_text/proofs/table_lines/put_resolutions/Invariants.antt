@@ -1,12 +1,8 @@
 -- `listing_text::table_lines::put_resolutions` meets its contract. The loop's invariant: the lines of the resolutions 1 to i are written.
 use Prim.Native.Nat.{◌*◌, ◌≤◌, ◌-◌}
-use Rattle.listing_text.proofs.Laws.{wrote_none, lines_none, lines_more, at_place}
 use Rattle.listing_text.specs.Text.{line_bytes, lines_to, resolution_line}
 use Rattle.listing_text.specs.Wrote.{Wrote}
-use mathlib.Core.Path.{◌≡◌}
-use native.Mathlib.Omega.{arith}
 use lib.ListN.{get_or}
-use borrow.Author.Rules.{rules}
 use Rattle.listing_text.proofs.table_lines.put_resolutions.Given as goal
 
 abbrev pub invariant-loop-i : goal.invariant-loop-i

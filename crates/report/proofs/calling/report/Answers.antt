@@ -7,9 +7,7 @@ use Rattle.report.specs.Promises.{refused_with}
 use Rattle.report.specs.Theorems.{made_is, prepared_fits}
 use Rattle.report.proofs.Laws.{report_accepted, says_all, front_cleared}
 use mathlib.Core.Path.{refl, sym, ap, ◌∙◌}
-use Prim.Native.Nat.{◌-◌}
 use native.Mathlib.Omega.{arith}
-use borrow.Author.Rules.{rules}
 use Rattle.report.proofs.calling.report.Goals as goal
 
 pub returns-then-refusal-ne0 : goal.returns-then-refusal-ne0

@@ -1,12 +1,8 @@
 use borrow.Author.Count.{below_none}
-use Rattle.document.specs.Limits.{most_output, work_words}
-use Rattle.report.specs.Firsts.{Answers}
 use Rattle.report.proofs.Laws.{answered, answers_more}
-use mathlib.Core.Path.{◌≡◌, refl, ◌∙◌}
-use Prim.Native.Nat.{ℕ, ◌+◌, ◌≤◌, ◌<◌, ◌-◌}
+use mathlib.Core.Path.{refl, ◌∙◌}
 use native.Mathlib.Omega.{arith}
-use lib.ListN.{length, get_or, length-set}
-use borrow.Author.Rules.{rules}
+use lib.ListN.{length-set}
 use Rattle.report.proofs.firsts.first_bits.Goals as goal
 
 pub loop-i-init : goal.loop-i-init

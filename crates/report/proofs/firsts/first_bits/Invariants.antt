@@ -1,14 +1,10 @@
 -- `report::firsts::first_bits` meets its contract. The loop's invariant: the entries before i answer the questions of the resolutions 1 to i, and
 -- the words behind the work buffer are as they were.
-use borrow.Author.Count.{below_none}
 use Rattle.document.specs.Limits.{most_output, work_words}
 use Rattle.report.specs.Firsts.{Answers}
-use Rattle.report.proofs.Laws.{answered, answers_more}
-use mathlib.Core.Path.{◌≡◌, refl, ◌∙◌}
+use mathlib.Core.Path.{◌≡◌}
 use Prim.Native.Nat.{ℕ, ◌+◌, ◌≤◌, ◌<◌, ◌-◌}
-use native.Mathlib.Omega.{arith}
-use lib.ListN.{length, get_or, length-set}
-use borrow.Author.Rules.{rules}
+use lib.ListN.{length, get_or}
 use Rattle.report.proofs.firsts.first_bits.Given as goal
 
 abbrev pub invariant-loop-i : goal.invariant-loop-i

@@ -1,8 +1,7 @@
 -- `report::making::of_first` meets its contract.
 use Rattle.tables.specs.Tables.{says}
 use Rattle.tables.specs.Theorems.{resolution_bounded, dimension_bounded}
-use Prim.Native.Nat.{◌+◌, ◌-◌}
-use borrow.Author.Rules.{rules}
+use Prim.Native.Nat.{◌+◌}
 use Rattle.report.proofs.making.of_first.Goals as goal
 
 pub resolution_sum-resolution_sum-requires : goal.resolution_sum-resolution_sum-requires

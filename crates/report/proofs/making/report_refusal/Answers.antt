@@ -3,8 +3,6 @@ use borrow.Author.Tests.{lt-ltb, le-ltb}
 use Rattle.document.specs.Refusals.{field_cases, report_refusal, field_refusal}
 use Rattle.document.specs.Lowest.{gives, skips, none_left, first_of, then_of, field_rises}
 use mathlib.Core.Path.{refl, sym, ◌∙◌}
-use Prim.Native.Nat.{◌-◌}
-use borrow.Author.Rules.{rules}
 use Rattle.report.proofs.making.report_refusal.Goals as goal
 
 pub returns-then-refusal-ne0 : goal.returns-then-refusal-ne0

@@ -1,9 +1,7 @@
 use Rattle.rows.proofs.KindTwo.{inside2}
-use Rattle.rows.proofs.KindTwo.{Laid, laid-start, laid_step, back2_is}
+use Rattle.rows.proofs.KindTwo.{laid-start, laid_step, back2_is}
 use mathlib.Core.Path.{◌≡◌}
-use Prim.Native.Nat.{◌≤◌, ◌-◌}
 use native.Mathlib.Omega.{arith}
-use borrow.Author.Rules.{rules}
 use Rattle.rows.proofs.gfsr.backed.Goals as goal
 
 pub loop-i-init : goal.loop-i-init

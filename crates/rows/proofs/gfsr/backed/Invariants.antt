@@ -1,9 +1,5 @@
-use Rattle.rows.proofs.KindTwo.{inside2}
-use Rattle.rows.proofs.KindTwo.{Laid, laid-start, laid_step, back2_is}
-use mathlib.Core.Path.{◌≡◌}
+use Rattle.rows.proofs.KindTwo.{Laid}
 use Prim.Native.Nat.{◌≤◌, ◌-◌}
-use native.Mathlib.Omega.{arith}
-use borrow.Author.Rules.{rules}
 use Rattle.rows.proofs.gfsr.backed.Given as goal
 
 abbrev pub invariant-loop-i : goal.invariant-loop-i

@@ -1,5 +1,4 @@
 use Rattle.rows.proofs.KindTwo.{chosen, not_chosen}
-use borrow.Author.Rules.{rules}
 use Rattle.rows.proofs.gfsr.placed_if.Goals as goal
 
 pub returns-then-chosen : goal.returns-then-chosen

@@ -1,5 +1,4 @@
 use Rattle.rows.proofs.KindOne.{back1_is}
-use borrow.Author.Rules.{rules}
 use Rattle.rows.proofs.tausworthe.backed.Goals as goal
 
 pub returns : goal.returns

@@ -1,7 +1,6 @@
 use Rattle.document.specs.Limits.{row_words}
 use Rattle.rows.proofs.Laws.{unit_bits}
 use Rattle.rows.proofs.KindOne.{first1_is, unit_clear}
-use borrow.Author.Rules.{rules}
 use Rattle.rows.proofs.tausworthe.first_row.Goals as goal
 
 pub steps_backed-requires : goal.steps_backed-requires

@@ -1,9 +1,6 @@
-use Rattle.rows.specs.Post.{StepsBack}
 use Rattle.rows.proofs.KindOne.{steps_none, steps_more}
 use mathlib.Core.Path.{◌≡◌}
-use Prim.Native.Nat.{◌≤◌, ◌-◌}
 use native.Mathlib.Omega.{arith}
-use borrow.Author.Rules.{rules}
 use Rattle.rows.proofs.tausworthe.steps_backed.Goals as goal
 
 pub loop-i-init : goal.loop-i-init

@@ -1,9 +1,5 @@
 use Rattle.rows.specs.Post.{StepsBack}
-use Rattle.rows.proofs.KindOne.{steps_none, steps_more}
-use mathlib.Core.Path.{◌≡◌}
 use Prim.Native.Nat.{◌≤◌, ◌-◌}
-use native.Mathlib.Omega.{arith}
-use borrow.Author.Rules.{rules}
 use Rattle.rows.proofs.tausworthe.steps_backed.Given as goal
 
 abbrev pub invariant-loop-i : goal.invariant-loop-i

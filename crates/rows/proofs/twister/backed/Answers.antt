@@ -5,7 +5,6 @@ use Rattle.rows.proofs.KindFour.{backed4_is, back4_is}
 use mathlib.Core.Path.{◌≡◌}
 use Prim.Native.Nat.{◌+◌, ◌-◌}
 use native.Mathlib.Omega.{arith}
-use borrow.Author.Rules.{rules}
 use Rattle.rows.proofs.twister.backed.Goals as goal
 
 pub overflow_mul-r : goal.overflow_mul-r

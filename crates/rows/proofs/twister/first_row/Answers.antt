@@ -1,6 +1,5 @@
 use Rattle.document.specs.Limits.{row_words}
 use Rattle.rows.proofs.KindFour.{first4_is}
-use borrow.Author.Rules.{rules}
 use Rattle.rows.proofs.twister.first_row.Goals as goal
 
 pub returns : goal.returns

@@ -1,5 +1,4 @@
 use Rattle.rows.proofs.KindFour.{unit-word, first_word_is}
-use borrow.Author.Rules.{rules}
 use Rattle.rows.proofs.twister.first_word.Goals as goal
 
 pub un_right-x-requires : goal.un_right-x-requires

@@ -1,5 +1,4 @@
 use Rattle.running.proofs.KindTwo.{moved2_is}
-use borrow.Author.Rules.{rules}
 use Rattle.running.proofs.gfsr.moved.Goals as goal
 
 pub returns : goal.returns

@@ -1,12 +1,10 @@
 use Rattle.document.specs.Limits.{most_bits}
 use native.Mathlib.Nat.{mul-le-mul_left}
-use mathlib.Core.Logic.{⊎_elim}
 use Rattle.kinds.specs.Reads.{word_in}
-use Rattle.running.proofs.KindTwo.{Chosen, chosen_none, chosen_one, chosen_not, chosen_all}
+use Rattle.running.proofs.KindTwo.{chosen_none, chosen_one, chosen_not, chosen_all}
 use mathlib.Core.Path.{◌≡◌}
-use Prim.Native.Nat.{◌+◌, ◌*◌, ◌≤◌, ◌<◌, ◌-◌}
+use Prim.Native.Nat.{◌+◌, ◌*◌, ◌≤◌, ◌<◌}
 use native.Mathlib.Omega.{arith}
-use borrow.Author.Rules.{rules}
 use Rattle.running.proofs.gfsr.next.Goals as goal
 use Rattle.running.proofs.gfsr.next.Goals.{then-mask-i-eq1, else-mask-i-eq1}
 
@@ -50,7 +48,7 @@ loop-i-preserved c =
     let x = c.loop-i.invariant.1 in (
       omega arith,
       elim c.if-mask-i-eq1.branch [
-        then-mask-i-eq1 w ↦ rw w.x-is (chosen_one _ _ _ _ _ x _ w.if-mask-i-eq1.true w.word_at-x.ensures)
+        | then-mask-i-eq1 w ↦ rw w.x-is (chosen_one _ _ _ _ _ x _ w.if-mask-i-eq1.true w.word_at-x.ensures)
         | else-mask-i-eq1 w ↦ rw w.x-is (chosen_not _ _ _ _ _ x w.if-mask-i-eq1.false)
       ],
     )

@@ -1,7 +1,6 @@
 use Rattle.running.proofs.Numbers.{within}
 use Rattle.running.proofs.KindTwo.{output2_is}
 use native.Mathlib.Omega.{arith}
-use borrow.Author.Rules.{rules}
 use Rattle.running.proofs.gfsr.output.Goals as goal
 
 pub mirrored-requires : goal.mirrored-requires

@@ -1,7 +1,6 @@
 use Rattle.document.specs.Limits.{row_words, coefficient_bytes}
-use Rattle.running.proofs.Masks.{Laying, laying_start, laying_step, laying_end}
+use Rattle.running.proofs.Masks.{laying_start, laying_step, laying_end}
 use mathlib.Core.Path.{◌≡◌}
-use Prim.Native.Nat.{◌≤◌, ◌-◌}
 use native.Mathlib.Omega.{arith}
 use borrow.Author.Rules.{rules}
 use Rattle.running.proofs.preparing.coefficient_mask.Goals as goal

@@ -1,9 +1,6 @@
-use Rattle.document.specs.Limits.{row_words, coefficient_bytes}
-use Rattle.running.proofs.Masks.{Laying, laying_start, laying_step, laying_end}
-use mathlib.Core.Path.{◌≡◌}
+use Rattle.document.specs.Limits.{coefficient_bytes}
+use Rattle.running.proofs.Masks.{Laying}
 use Prim.Native.Nat.{◌≤◌, ◌-◌}
-use native.Mathlib.Omega.{arith}
-use borrow.Author.Rules.{rules}
 use Rattle.running.proofs.preparing.coefficient_mask.Given as goal
 
 abbrev pub invariant-loop-j : goal.invariant-loop-j

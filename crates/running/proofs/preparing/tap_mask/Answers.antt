@@ -1,9 +1,7 @@
 use Rattle.document.specs.Limits.{row_words}
-use Rattle.running.proofs.Masks.{Tapping, tapping_start, tapping_step, tapping_end}
+use Rattle.running.proofs.Masks.{tapping_start, tapping_step, tapping_end}
 use mathlib.Core.Path.{◌≡◌}
-use Prim.Native.Nat.{◌≤◌, ◌-◌}
 use native.Mathlib.Omega.{arith}
-use borrow.Author.Rules.{rules}
 use Rattle.running.proofs.preparing.tap_mask.Goals as goal
 
 pub loop-i-init : goal.loop-i-init

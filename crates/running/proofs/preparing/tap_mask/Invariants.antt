@@ -1,9 +1,5 @@
-use Rattle.document.specs.Limits.{row_words}
-use Rattle.running.proofs.Masks.{Tapping, tapping_start, tapping_step, tapping_end}
-use mathlib.Core.Path.{◌≡◌}
+use Rattle.running.proofs.Masks.{Tapping}
 use Prim.Native.Nat.{◌≤◌, ◌-◌}
-use native.Mathlib.Omega.{arith}
-use borrow.Author.Rules.{rules}
 use Rattle.running.proofs.preparing.tap_mask.Given as goal
 
 abbrev pub invariant-loop-i : goal.invariant-loop-i

@@ -1,11 +1,7 @@
 use Rattle.running.proofs.Numbers.{within}
 use Rattle.running.proofs.KindOne.{first_is}
 use Rattle.kinds.specs.Generator.{tausworthe}
-use mathlib.Core.Path.{◌≡◌, refl, sym, ap, ◌∙◌}
-use Prim.Native.Nat.{ℕ, zero, suc, ◌+◌, ◌*◌, ◌≤◌, ◌<◌, ◌-◌}
 use native.Mathlib.Omega.{arith}
-use lib.ListN.{length, get_or, set, length-set}
-use borrow.Author.Rules.{rules}
 use Rattle.running.proofs.tausworthe.first_bits.Goals as goal
 
 pub word_at-x-requires : goal.word_at-x-requires

@@ -1,10 +1,7 @@
 use Rattle.kinds.specs.Generator.{tausworthe}
-use Rattle.running.specs.Prepared.{Stepped}
 use Rattle.running.proofs.KindOne.{stepped-none, stepped_more}
 use mathlib.Core.Path.{◌≡◌}
-use Prim.Native.Nat.{◌≤◌, ◌-◌}
 use native.Mathlib.Omega.{arith}
-use borrow.Author.Rules.{rules}
 use Rattle.running.proofs.tausworthe.moved.Goals as goal
 
 pub loop-i-init : goal.loop-i-init

@@ -1,10 +1,5 @@
-use Rattle.kinds.specs.Generator.{tausworthe}
 use Rattle.running.specs.Prepared.{Stepped}
-use Rattle.running.proofs.KindOne.{stepped-none, stepped_more}
-use mathlib.Core.Path.{◌≡◌}
 use Prim.Native.Nat.{◌≤◌, ◌-◌}
-use native.Mathlib.Omega.{arith}
-use borrow.Author.Rules.{rules}
 use Rattle.running.proofs.tausworthe.moved.Given as goal
 
 abbrev pub invariant-loop-i : goal.invariant-loop-i

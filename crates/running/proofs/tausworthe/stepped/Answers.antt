@@ -1,6 +1,5 @@
 use Rattle.running.proofs.KindOne.{stepped_one, stepped-zero}
 use mathlib.Core.Path.{sym, ◌∙◌}
-use borrow.Author.Rules.{rules}
 use Rattle.running.proofs.tausworthe.stepped.Goals as goal
 
 pub returns-then-parity : goal.returns-then-parity

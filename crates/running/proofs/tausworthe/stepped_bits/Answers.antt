@@ -1,9 +1,7 @@
 use Rattle.kinds.specs.Generator.{tausworthe}
-use Rattle.running.proofs.KindOne.{Put, put_start, put_more, put_small}
+use Rattle.running.proofs.KindOne.{put_start, put_more, put_small}
 use mathlib.Core.Path.{◌≡◌}
-use Prim.Native.Nat.{◌≤◌, ◌-◌}
 use native.Mathlib.Omega.{arith}
-use borrow.Author.Rules.{rules}
 use Rattle.running.proofs.tausworthe.stepped_bits.Goals as goal
 
 pub loop-j-init : goal.loop-j-init

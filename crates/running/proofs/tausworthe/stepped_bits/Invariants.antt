@@ -1,9 +1,5 @@
-use Rattle.kinds.specs.Generator.{tausworthe}
-use Rattle.running.proofs.KindOne.{Put, put_start, put_more, put_small}
-use mathlib.Core.Path.{◌≡◌}
+use Rattle.running.proofs.KindOne.{Put}
 use Prim.Native.Nat.{◌≤◌, ◌-◌}
-use native.Mathlib.Omega.{arith}
-use borrow.Author.Rules.{rules}
 use Rattle.running.proofs.tausworthe.stepped_bits.Given as goal
 
 abbrev pub invariant-loop-j : goal.invariant-loop-j

@@ -1,5 +1,4 @@
 use Rattle.running.proofs.KindFour.{moved4_is}
-use borrow.Author.Rules.{rules}
 use Rattle.running.proofs.twister.moved.Goals as goal
 
 pub returns : goal.returns

@@ -2,7 +2,6 @@ use Rattle.kinds.specs.Reads.{word_in}
 use Rattle.running.proofs.KindFour.{next4_is}
 use Prim.Native.Nat.{◌-◌}
 use native.Mathlib.Omega.{arith}
-use borrow.Author.Rules.{rules}
 use Rattle.running.proofs.twister.next.Goals as goal
 
 pub overflow_mul-r : goal.overflow_mul-r

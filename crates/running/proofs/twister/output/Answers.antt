@@ -1,7 +1,6 @@
 use Rattle.running.proofs.Numbers.{within}
 use Rattle.running.proofs.KindFour.{output4_is}
 use native.Mathlib.Omega.{arith}
-use borrow.Author.Rules.{rules}
 use Rattle.running.proofs.twister.output.Goals as goal
 
 pub mirrored-requires : goal.mirrored-requires

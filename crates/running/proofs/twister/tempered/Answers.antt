@@ -1,5 +1,4 @@
 use Rattle.running.proofs.KindFour.{tempered_is}
-use borrow.Author.Rules.{rules}
 use Rattle.running.proofs.twister.tempered.Goals as goal
 
 pub returns : goal.returns

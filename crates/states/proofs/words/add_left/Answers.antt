@@ -1,5 +1,4 @@
 use Rattle.states.proofs.WordLaws.{add_left_is}
-use borrow.Author.Rules.{rules}
 use Rattle.states.proofs.words.add_left.Goals as goal
 
 pub returns : goal.returns

@@ -1,6 +1,5 @@
 use Rattle.states.proofs.WordLaws.{add_right_is}
 use native.Mathlib.Omega.{arith}
-use borrow.Author.Rules.{rules}
 use Rattle.states.proofs.words.add_right.Goals as goal
 
 pub returns : goal.returns

@@ -1,5 +1,4 @@
 use Rattle.states.proofs.WordLaws.{exchanged_is}
-use borrow.Author.Rules.{rules}
 use Rattle.states.proofs.words.exchanged.Goals as goal
 
 pub returns : goal.returns

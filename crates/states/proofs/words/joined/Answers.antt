@@ -1,5 +1,4 @@
 use Rattle.states.proofs.WordLaws.{joined_is}
-use borrow.Author.Rules.{rules}
 use Rattle.states.proofs.words.joined.Goals as goal
 
 pub returns : goal.returns

@@ -6,7 +6,6 @@ use Prim.Native.Nat.{ℕ, ◌%◌, ◌^◌, ◌<◌}
 use mathlib.Core.Path.{◌≡◌, ◌∙◌}
 use Prim.Native.Nat.{◌*◌}
 use native.Mathlib.Omega.{arith}
-use borrow.Author.Rules.{rules}
 use Rattle.states.proofs.words.low.Goals as goal
 
 one_shl : (w : ℕ) → w < 64 → 1 * 2 ^ w % 2 ^ 64 ≡ 2 ^ w

@@ -3,7 +3,6 @@ use lib.Dec.{lit<}
 use Rattle.states.proofs.WordLaws.{mirrored_is}
 use mathlib.Core.Path.{refl}
 use native.Mathlib.Omega.{arith}
-use borrow.Author.Rules.{rules}
 use Rattle.states.proofs.words.mirrored.Goals as goal
 
 pub exchanged-a-requires : goal.exchanged-a-requires

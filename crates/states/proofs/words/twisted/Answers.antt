@@ -1,6 +1,5 @@
 use Rattle.states.proofs.WordLaws.{twist_one, twist-none}
 use native.Mathlib.Omega.{arith}
-use borrow.Author.Rules.{rules}
 use Rattle.states.proofs.words.twisted.Goals as goal
 
 pub returns-then-x-w-eq1 : goal.returns-then-x-w-eq1

@@ -1,6 +1,5 @@
 use Rattle.states.proofs.WordLaws.{un_left_is}
 use native.Mathlib.Omega.{arith}
-use borrow.Author.Rules.{rules}
 use Rattle.states.proofs.words.un_left.Goals as goal
 
 pub returns : goal.returns

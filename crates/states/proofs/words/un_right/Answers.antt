@@ -1,5 +1,4 @@
 use Rattle.states.proofs.WordLaws.{un_right_is}
-use borrow.Author.Rules.{rules}
 use Rattle.states.proofs.words.un_right.Goals as goal
 
 pub returns : goal.returns

@@ -1,5 +1,4 @@
 use Rattle.states.proofs.WordLaws.{untwist_one, untwist-none}
-use borrow.Author.Rules.{rules}
 use Rattle.states.proofs.words.untwisted.Goals as goal
 
 pub returns-then-a-y-eq1 : goal.returns-then-a-y-eq1
