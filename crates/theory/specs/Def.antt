@@ -3,7 +3,7 @@
 use Rattle.std.specs.Prelude.{◌≡◌, Bool, true, false, not, ◌&&◌, cond, ℕ, zero, suc, ◌+◌, ◌<◌, eqb}
 
 infixl 32 ◌⊕◌
-infixr 40 ◌∷◌
+infixr 40 ◌▹◌
 infixl 45 ◌⊞◌
 -- The sum of two bits, modulo 2. (`&&`, their product, binds closer.)
 abbrev pub ◌⊕◌ : Bool → Bool → Bool
@@ -27,37 +27,37 @@ pair k ρ s = xorsum k (λ b. ρ b && s b)
 
 pub data Bits : ℕ → Type 0 where
   [] : Bits zero
-  ◌∷◌ : {k : ℕ} → Bool → Bits k → Bits (suc k)
+  ◌▹◌ : {k : ℕ} → Bool → Bits k → Bits (suc k)
 
 -- bit b of a state; no bit is set from k on
 unfoldable pub bit : {k : ℕ} → Bits k → ℕ → Bool
 bit [] b = false
-bit (x ∷ s) zero = x
-bit (x ∷ s) (suc b) = bit s b
+bit (x ▹ s) zero = x
+bit (x ▹ s) (suc b) = bit s b
 
 -- the state whose bit b is f b
 unfoldable pub tabulate : (k : ℕ) → (ℕ → Bool) → Bits k
 tabulate zero f = []
-tabulate (suc k) f = f zero ∷ tabulate k (λ b. f (suc b))
+tabulate (suc k) f = f zero ▹ tabulate k (λ b. f (suc b))
 
 unfoldable pub zeros : (k : ℕ) → Bits k
 zeros zero = []
-zeros (suc k) = false ∷ zeros k
+zeros (suc k) = false ▹ zeros k
 
 -- the sum of two states, bit by bit
 unfoldable pub ◌⊞◌ : {k : ℕ} → Bits k → Bits k → Bits k
 [] ⊞ [] = []
-(x ∷ s) ⊞ (y ∷ t) = (x ⊕ y) ∷ (s ⊞ t)
+(x ▹ s) ⊞ (y ▹ t) = (x ⊕ y) ▹ (s ⊞ t)
 
 -- how many of the 2 ^ k states pass the test P
 unfoldable pub count : {k : ℕ} → (Bits k → Bool) → ℕ
 count {k = zero} P = cond (P []) 1 0
-count {k = suc k} P = count (λ s. P (false ∷ s)) + count (λ s. P (true ∷ s))
+count {k = suc k} P = count (λ s. P (false ▹ s)) + count (λ s. P (true ▹ s))
 
 -- do all of the 2 ^ k states pass the test P?
 unfoldable pub every : {k : ℕ} → (Bits k → Bool) → Bool
 every {k = zero} P = P []
-every {k = suc k} P = every (λ s. P (false ∷ s)) && every (λ s. P (true ∷ s))
+every {k = suc k} P = every (λ s. P (false ▹ s)) && every (λ s. P (true ▹ s))
 
 -- do p and q agree below m?
 unfoldable pub agree : ℕ → (ℕ → Bool) → (ℕ → Bool) → Bool

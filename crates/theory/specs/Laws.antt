@@ -6,7 +6,7 @@ use Rattle.std.proofs.lemmas.Bool.{false≢true}
 use Rattle.std.proofs.Math.Bool.{and_comm}
 use Rattle.std.proofs.Math.Nat.{two-pow-succ}
 use Rattle.std.proofs.Math.Decide.{ℕ_discrete}
-use Rattle.theory.specs.Def.{◌⊕◌, xorsum, Bits, [], ◌∷◌, bit, tabulate, zeros, ◌⊞◌, count, every, agree, Linear}
+use Rattle.theory.specs.Def.{◌⊕◌, xorsum, Bits, [], ◌▹◌, bit, tabulate, zeros, ◌⊞◌, count, every, agree, Linear}
 
 -- ---- two, three, four bits
 
@@ -149,7 +149,7 @@ agree_shift (suc m) a c p q h = rw (h m (omega arith)) (ap₂ ◌&&◌ (agree_sh
 pub ⊞-zeros : (k : ℕ) → zeros k ⊞ zeros k ≡ zeros k
 unfolding ◌⊞◌ zeros
 ⊞-zeros zero = refl
-⊞-zeros (suc k) = ap (λ s. false ∷ s) (⊞-zeros k)
+⊞-zeros (suc k) = ap (λ s. false ▹ s) (⊞-zeros k)
 
 pub linear_zeros : {k : ℕ} (g : Bits k → Bool) → Linear g → g (zeros k) ≡ false
 linear_zeros {k} g l = ap g (sym (⊞-zeros k)) ∙ l (zeros k) (zeros k) ∙ ⊕_self (g (zeros k))
@@ -166,23 +166,23 @@ Found {k} P = ((s : Bits k) × (P s ≡ true)) ⊎ ((s : Bits k) → P s ≡ fal
 of_empty : (P : Bits zero → Bool) → P [] ≡ false → (s : Bits zero) → P s ≡ false
 of_empty P e [] = e
 
-of_halves : {k : ℕ} (P : Bits (suc k) → Bool) → ((s : Bits k) → P (false ∷ s) ≡ false) → ((s : Bits k) → P (true ∷ s) ≡ false) → (s : Bits (suc k))
+of_halves : {k : ℕ} (P : Bits (suc k) → Bool) → ((s : Bits k) → P (false ▹ s) ≡ false) → ((s : Bits k) → P (true ▹ s) ≡ false) → (s : Bits (suc k))
     → P s ≡ false
-of_halves P h g (false ∷ s) = h s
-of_halves P h g (true ∷ s) = g s
+of_halves P h g (false ▹ s) = h s
+of_halves P h g (true ▹ s) = g s
 
 find_nil : (P : Bits zero → Bool) (b : Bool) → P [] ≡ b → Found P
 find_nil P true e = inl ([], e)
 find_nil P false e = inr (of_empty P e)
 
-find_cons : {k : ℕ} (P : Bits (suc k) → Bool) → Found (λ s. P (false ∷ s)) → Found (λ s. P (true ∷ s)) → Found P
-find_cons P (inl (s, e)) d = inl (false ∷ s, e)
-find_cons P (inr h) (inl (s, e)) = inl (true ∷ s, e)
+find_cons : {k : ℕ} (P : Bits (suc k) → Bool) → Found (λ s. P (false ▹ s)) → Found (λ s. P (true ▹ s)) → Found P
+find_cons P (inl (s, e)) d = inl (false ▹ s, e)
+find_cons P (inr h) (inl (s, e)) = inl (true ▹ s, e)
 find_cons P (inr h) (inr g) = inr (of_halves P h g)
 
 pub find : {k : ℕ} (P : Bits k → Bool) → Found P
 find {k = zero} P = find_nil P (P []) refl
-find {k = suc k} P = find_cons P (find (λ s. P (false ∷ s))) (find (λ s. P (true ∷ s)))
+find {k = suc k} P = find_cons P (find (λ s. P (false ▹ s))) (find (λ s. P (true ▹ s)))
 
 pub count_cong : {k : ℕ} (P Q : Bits k → Bool) → ((s : Bits k) → P s ≡ Q s) → count P ≡ count Q
 count_cong P Q h = ap count (fun_ext h)
@@ -191,19 +191,19 @@ count_cong P Q h = ap count (fun_ext h)
 pub count_shift : {k : ℕ} (P : Bits k → Bool) (t : Bits k) → count (λ s. P (s ⊞ t)) ≡ count P
 unfolding count ◌⊞◌
 count_shift P [] = refl
-count_shift P (false ∷ t) = ap₂ ◌+◌ (count_shift (λ s. P (false ∷ s)) t) (count_shift (λ s. P (true ∷ s)) t)
-count_shift P (true ∷ t) = ap₂ ◌+◌ (count_shift (λ s. P (true ∷ s)) t) (count_shift (λ s. P (false ∷ s)) t) ∙ add_comm _ _
+count_shift P (false ▹ t) = ap₂ ◌+◌ (count_shift (λ s. P (false ▹ s)) t) (count_shift (λ s. P (true ▹ s)) t)
+count_shift P (true ▹ t) = ap₂ ◌+◌ (count_shift (λ s. P (true ▹ s)) t) (count_shift (λ s. P (false ▹ s)) t) ∙ add_comm _ _
 
 pub count_pos : {k : ℕ} (P : Bits k → Bool) (s : Bits k) → P s ≡ true → 0 < count P
 unfolding count
 count_pos P [] e = rw e (omega arith)
-count_pos P (false ∷ s) e = omega (arith, count_pos (λ r. P (false ∷ r)) s e)
-count_pos P (true ∷ s) e = omega (arith, count_pos (λ r. P (true ∷ r)) s e)
+count_pos P (false ▹ s) e = omega (arith, count_pos (λ r. P (false ▹ r)) s e)
+count_pos P (true ▹ s) e = omega (arith, count_pos (λ r. P (true ▹ r)) s e)
 
 count_none : {k : ℕ} (P : Bits k → Bool) → ((s : Bits k) → P s ≡ false) → count P ≡ 0
 unfolding count
 count_none {k = zero} P h = rw (h [])
-count_none {k = suc k} P h = omega (arith, count_none (λ r. P (false ∷ r)) (λ s. h (false ∷ s)), count_none (λ r. P (true ∷ r)) (λ s. h (true ∷ s)))
+count_none {k = suc k} P h = omega (arith, count_none (λ r. P (false ▹ r)) (λ s. h (false ▹ s)), count_none (λ r. P (true ▹ r)) (λ s. h (true ▹ s)))
 
 pub count_found : {k : ℕ} (P : Bits k → Bool) → 0 < count P → (s : Bits k) × (P s ≡ true)
 count_found P h = elim (find P) [ inl r ↦ r | inr g ↦ absurd (omega (arith, count_none P g)) ]
@@ -222,15 +222,15 @@ count_split {k = zero} P g = table (P []) (g [])
     table true true = refl
     table true false = refl
     table false y = refl
-count_split {k = suc k} P g = omega (arith, count_split (λ s. P (false ∷ s)) (λ s. g (false ∷ s)), count_split (λ s. P (true ∷ s)) (λ s. g (true ∷ s)))
+count_split {k = suc k} P g = omega (arith, count_split (λ s. P (false ▹ s)) (λ s. g (false ▹ s)), count_split (λ s. P (true ▹ s)) (λ s. g (true ▹ s)))
 
 -- ---- states against functions
 
 pub bit-⊞ : {k : ℕ} (s t : Bits k) (b : ℕ) → bit (s ⊞ t) b ≡ bit s b ⊕ bit t b
 unfolding bit ◌⊞◌
 bit-⊞ [] [] b = refl
-bit-⊞ (x ∷ s) (y ∷ t) zero = refl
-bit-⊞ (x ∷ s) (y ∷ t) (suc b) = bit-⊞ s t b
+bit-⊞ (x ▹ s) (y ▹ t) zero = refl
+bit-⊞ (x ▹ s) (y ▹ t) (suc b) = bit-⊞ s t b
 
 pub bit-tabulate : (k : ℕ) (f : ℕ → Bool) (b : ℕ) → b < k → bit (tabulate k f) b ≡ f b
 unfolding bit tabulate
@@ -241,18 +241,18 @@ bit-tabulate (suc k) f (suc b) h = bit-tabulate k (λ j. f (suc j)) b (omega ari
 pub bit_past : {k : ℕ} (s : Bits k) (b : ℕ) → k ≤ b → bit s b ≡ false
 unfolding bit
 bit_past [] b h = refl
-bit_past (x ∷ s) zero h = absurd (omega arith)
-bit_past (x ∷ s) (suc b) h = bit_past s b (omega arith)
+bit_past (x ▹ s) zero h = absurd (omega arith)
+bit_past (x ▹ s) (suc b) h = bit_past s b (omega arith)
 
 -- ---- a test passed by every state
 
 pub every_intro : {k : ℕ} (P : Bits k → Bool) → ((s : Bits k) → P s ≡ true) → every P ≡ true
 unfolding every
 every_intro {k = zero} P h = h []
-every_intro {k = suc k} P h = ap₂ ◌&&◌ (every_intro (λ s. P (false ∷ s)) (λ s. h (false ∷ s))) (every_intro (λ s. P (true ∷ s)) (λ s. h (true ∷ s)))
+every_intro {k = suc k} P h = ap₂ ◌&&◌ (every_intro (λ s. P (false ▹ s)) (λ s. h (false ▹ s))) (every_intro (λ s. P (true ▹ s)) (λ s. h (true ▹ s)))
 
 pub every_elim : {k : ℕ} (P : Bits k → Bool) → every P ≡ true → (s : Bits k) → P s ≡ true
 unfolding every
 every_elim P e [] = e
-every_elim P e (false ∷ s) = every_elim (λ s. P (false ∷ s)) (and_true_l _ (every (λ s. P (true ∷ s))) e) s
-every_elim P e (true ∷ s) = every_elim (λ s. P (true ∷ s)) (and_true_r (every (λ s. P (false ∷ s))) _ e) s
+every_elim P e (false ▹ s) = every_elim (λ s. P (false ▹ s)) (and_true_l _ (every (λ s. P (true ▹ s))) e) s
+every_elim P e (true ▹ s) = every_elim (λ s. P (true ▹ s)) (and_true_r (every (λ s. P (false ▹ s))) _ e) s
