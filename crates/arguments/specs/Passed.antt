@@ -5,7 +5,8 @@ use Rattle.document.specs.declared.Fields.{Fields}
 use Rattle.document.specs.Generator.{size}
 use Rattle.document.specs.Refusals.{Case, lowest, field_cases, pair_cases, asked_cases, room_cases}
 use Rattle.document.specs.Lowest.{Rising, field_rises, first_of, then_of, after}
-use Rattle.document.specs.Ranges.{Accepted, accepted, inside, passed}
+use Rattle.document.specs.Ranges.{Accepted, inside, passed}
+use Rattle.document.proofs.Accepted.{accepted}
 
 pub record AskedPassed (g : Fields) (t l : ℕ) : Type 0 where
   pub accepted : Accepted g

@@ -26,7 +26,8 @@ use Rattle.document.specs.Limits.{row_words, most_bits, work_words}
 use Rattle.document.specs.Generator.{machine, size}
 use Rattle.document.specs.Refusals.{field_cases, outside, basis_refusal}
 use Rattle.document.specs.Lowest.{field_rises, after}
-use Rattle.document.specs.Ranges.{Accepted, accepted, passed, inside}
+use Rattle.document.specs.Ranges.{Accepted, passed, inside}
+use Rattle.document.proofs.Accepted.{accepted}
 use Rattle.document.specs.Basis.{row, BasisOf}
 use Rattle.running.specs.declared.Prepared.{Prepared}
 use Rattle.running.specs.Prepared.{PreparedFor, machine_of}

@@ -12,7 +12,8 @@ use Rattle.document.specs.declared.Fields.{Fields}
 use Rattle.document.specs.Description.{number, length_of, fields_of}
 use Rattle.document.specs.Refusals.{field_cases, write_refusal, outside, read_refusal, range_refusal}
 use Rattle.document.specs.Lowest.{after, field_rises, gives, skips}
-use Rattle.document.specs.Ranges.{Accepted, accepted, passed}
+use Rattle.document.specs.Ranges.{Accepted, passed}
+use Rattle.document.proofs.Accepted.{accepted}
 use borrow.Author.Tests.{ltb-false, eq-eqb, ne_eqb}
 use lib.Dec.{eqb}
 use Rattle.description.specs.declared.reading.Reading.{Reading}

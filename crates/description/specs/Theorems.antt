@@ -9,7 +9,8 @@ use Rattle.document.specs.Description.{length_of, description, fields_of}
 use Rattle.document.specs.Refusals.{field_cases, field_refusal, read_refusal, write_refusal}
 use Rattle.document.specs.Lowest.{field_rises, then_of, skips, none_left, after}
 use Rattle.document.specs.RoundTrip.{Sized}
-use Rattle.document.specs.Theorems.{written_read, written_accepted, read_written, read_accepted, read_length}
+use Rattle.document.specs.Theorems.{read_written, read_accepted, read_length}
+use Rattle.document.proofs.Theorems.{written_read, written_accepted}
 use Rattle.description.specs.declared.reading.Reading.{Reading}
 use Rattle.description.specs.Promises.{ReadAs, WrittenAs}
 

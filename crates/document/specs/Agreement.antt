@@ -10,7 +10,8 @@ use Rattle.theory.specs.Echelon.{spanned_trans}
 use Rattle.digits.specs.Def.{Word}
 use Rattle.kinds.specs.Generator.{Machine}
 use Rattle.kinds.specs.Linear.{LinearMachine}
-use Rattle.kinds.specs.Theorems.{tausworthe_linear, gfsr_linear, twisted_linear, mersenne_linear, output_linear}
+use Rattle.kinds.specs.Theorems.{tausworthe_linear, gfsr_linear, twisted_linear, mersenne_linear}
+use Rattle.kinds.proofs.Outputs.{output_linear}
 use Rattle.document.specs.declared.Fields.{Fields}
 use Rattle.document.specs.Generator.{by_kind, machine}
 use Rattle.document.specs.Memory.{Front}

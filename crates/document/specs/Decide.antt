@@ -9,7 +9,7 @@ use Rattle.std.proofs.Math.Dec.{ltb, eqb}
 use borrow.Author.Tests.{ltb-true, eqb-true, not-true}
 use Rattle.theory.specs.Def.{xorsum, Bits, bit, every, agree, evenly, Spanned}
 use Rattle.theory.specs.Laws.{below_suc, and_true_l, and_true_r, agree_elim, every_intro, every_elim, find}
-use Rattle.theory.specs.Theorems as T
+use Rattle.theory.proofs.Theorems as T
 use Rattle.digits.specs.Def.{Word, digit}
 use Rattle.digits.specs.Laws.{digit_past}
 use Rattle.kinds.specs.Generator.{Machine}

@@ -1,6 +1,6 @@
 -- What the refusals of the fields leave is just the document's ranges, with no field set that the kind hasn't got.
 use Rattle.std.specs.Prelude.{◌≡◌, refl, Bool, false, ◌&&◌, List, [], ◌∷◌, ℕ, zero, suc, ◌-◌, ◌*◌, ◌^◌, ◌≤◌, ◌<◌, ltb}
-use Rattle.std.proofs.Common.{sym, ◌∙◌, true≢false, arith, lt-ltb, le-ltb}
+use Rattle.std.proofs.Common.{◌∙◌, true≢false, arith, lt-ltb, le-ltb}
 use Rattle.std.proofs.Math.Path.{ap, ap₂}
 use Rattle.std.proofs.Math.Bool.{not, ◌||◌, or_assoc, or-false}
 use Rattle.std.proofs.Math.Logic.{by_cases}
@@ -11,7 +11,7 @@ use Rattle.document.specs.Limits.{most_bits, most_output, coefficient_bytes}
 use Rattle.document.specs.Generator.{by_kind, coefficient}
 use Rattle.document.specs.Refusals.{◌if◌, lowest, outside, any, bad_kind, bad_words, bad_twist, bad_size, bad_bits, bad_pair, bad_shift, wide_word}
 use Rattle.document.specs.Refusals.{coefficient_past, bad_own, one_set, stray_one, stray_twist, stray_field, bad_value, field_refusal}
-use Rattle.document.specs.Ranges.{WordRanges, TwistRanges, Accepted, accepted, cases, is_one, is_two, is_three, is_four, or-none, unset, all_passed}
+use Rattle.document.specs.Ranges.{WordRanges, TwistRanges, Accepted, cases, is_one, is_two, is_three, is_four, or-none}
 
 abbrev pub AllZero : List ℕ → Type 0
 AllZero [] = Unit {0}
@@ -37,11 +37,11 @@ pub record Just (g : Fields) : Type 0 where
 
 -- ---- fields that are zero
 
-some_set : List ℕ → Bool
+unfoldable pub some_set : List ℕ → Bool
 some_set [] = false
 some_set (x ∷ xs) = nonzero x || some_set xs
 
-none_set : (xs : List ℕ) → some_set xs ≡ false → AllZero xs
+pub none_set : (xs : List ℕ) → some_set xs ≡ false → AllZero xs
 unfolding some_set
 none_set [] e = tt
 none_set (x ∷ xs) e = let (a, b) = or-none (nonzero x) (some_set xs) e in (is_zero x a, none_set xs b)
@@ -57,37 +57,21 @@ set_none (x ∷ xs) (e, z) = ap₂ ◌||◌ (ap nonzero e) (set_none xs z)
 
 -- the tests of `stray_field`, kind by kind
 module _ (g : Fields) where
-  stray1 : g.kind ≡ 1 → stray_field g ≡ some_set (g.r ∷ g.m ∷ g.w ∷ twist_fields g)
+  pub stray1 : g.kind ≡ 1 → stray_field g ≡ some_set (g.r ∷ g.m ∷ g.w ∷ twist_fields g)
   unfolding stray_field stray_twist one_set some_set
   stray1 e = is_one g.kind _ _ _ _ e ∙ simp (or_assoc, or-false)
 
-  stray2 : g.kind ≡ 2 → stray_field g ≡ some_set (g.k ∷ g.nu ∷ g.m ∷ twist_fields g)
+  pub stray2 : g.kind ≡ 2 → stray_field g ≡ some_set (g.k ∷ g.nu ∷ g.m ∷ twist_fields g)
   unfolding stray_field stray_one stray_twist one_set some_set
   stray2 e = is_two g.kind _ _ _ _ e ∙ simp (or_assoc, or-false)
 
-  stray3 : g.kind ≡ 3 → stray_field g ≡ (some_set (g.k ∷ g.nu ∷ g.p ∷ g.u ∷ g.v ∷ []) || coefficient_past g 0)
+  pub stray3 : g.kind ≡ 3 → stray_field g ≡ (some_set (g.k ∷ g.nu ∷ g.p ∷ g.u ∷ g.v ∷ []) || coefficient_past g 0)
   unfolding stray_field stray_one one_set some_set
   stray3 e = is_three g.kind _ _ _ _ e ∙ simp (or_assoc, or-false)
 
-  stray4 : g.kind ≡ 4 → stray_field g ≡ (some_set (g.k ∷ g.nu ∷ []) || coefficient_past g 0)
+  pub stray4 : g.kind ≡ 4 → stray_field g ≡ (some_set (g.k ∷ g.nu ∷ []) || coefficient_past g 0)
   unfolding stray_field stray_one some_set
   stray4 e = is_four g.kind _ _ _ _ e ∙ simp (or_assoc, or-false)
-
--- ---- nothing is refused, so the ranges hold
-
-pub accepted_just : (g : Fields) → field_refusal g ≡ 0 → Just g
-unfolding field_refusal bad_value
-accepted_just g e =
-    let (_, s) = or-none (bad_own g) (stray_field g) (all_passed g e).value in
-    record {
-      ranges = accepted g e;
-      nothing_stray = record {
-        one = λ k. none_set _ (sym (stray1 g k) ∙ s);
-        two = λ k. none_set _ (sym (stray2 g k) ∙ s);
-        three = λ k. let (a, b) = or-none _ (coefficient_past g 0) (sym (stray3 g k) ∙ s) in (none_set _ a, λ i h. unset g 0 b i (omega arith) h);
-        four = λ k. let (a, b) = or-none _ (coefficient_past g 0) (sym (stray4 g k) ∙ s) in (none_set _ a, λ i h. unset g 0 b i (omega arith) h);
-      };
-    }
 
 -- ---- the ranges hold, so nothing is refused
 

@@ -123,4 +123,4 @@ fields_first g ds r e n = first_of (field_cases g) ds r (sym e) n
 
 pub fields_then : (g : Fields) (ds : List Case) (r x : ℕ) → r ≡ field_refusal g → r ≡ 0 → x ≡ lowest ds → x ≡ lowest (field_cases g ++ ds)
 unfolding field_refusal
-fields_then g ds r x e z f = then_of 0 (field_cases g) ds x (field_rises g) (sym e ∙ z) f
+fields_then g ds r x e z f = let rises : Rising 0 (field_cases g) = omega arith in then_of 0 (field_cases g) ds x rises (sym e ∙ z) f

@@ -5,10 +5,10 @@ use Rattle.std.proofs.Math.Nat.{div-eq_of_lt, mul-add-div_right, mul-add-mod_sel
 use Rattle.std.proofs.lemmas.Bool.{not-true}
 use Rattle.theory.specs.Def.{xorsum, Bits, bit, every, agree, hits, evenly, count, Linear, Dependent, Independent}
 use Rattle.theory.specs.Laws.{every_elim}
-use Rattle.theory.specs.Theorems as T
+use Rattle.theory.proofs.Theorems as T
 use Rattle.digits.specs.Def.{Word, digit}
 use Rattle.kinds.specs.Generator.{Machine, times, output_bit, next_bit, stepped, tausworthe}
-use Rattle.kinds.specs.Theorems.{output_linear}
+use Rattle.kinds.proofs.Outputs.{output_linear}
 use Rattle.document.specs.Generator.{by_kind, coefficient, machine}
 use Rattle.document.specs.Description.{number, fields_of}
 use Rattle.document.specs.Cells.{bit_of}

@@ -163,7 +163,7 @@ module _ (g : Fields) (x : Passed g) where
   unfolding bad_value
   own_value = (or-none (bad_own g) (stray_field g) x.value).0
 
-  ranges1 : g.kind ≡ 1 → Ranges1 g
+  pub ranges1 : g.kind ≡ 1 → Ranges1 g
   unfolding bad_size bad_bits bad_shift bad_own
   ranges1 e =
       let (k₁, k₂) = inside 1 most_bits g.k (sym (is_one g.kind _ _ _ _ e) ∙ x.size) in
@@ -181,7 +181,7 @@ module _ (g : Fields) (x : Passed g) where
       let (b₁, b₂) = inside 1 g.w g.bits f in
       record { w_least = w₁; w_most = w₂; r_least = p; product = ltb-false most_bits (g.r * g.w) b; bits_least = b₁; bits_most = b₂ }
 
-  ranges2 : g.kind ≡ 2 → Ranges2 g
+  pub ranges2 : g.kind ≡ 2 → Ranges2 g
   unfolding bad_size bad_bits bad_own
   ranges2 e =
       let (a, b) = or-none (bad_words g) (ltb g.r 1) (sym (is_two g.kind _ _ _ _ e) ∙ x.size) in
@@ -220,14 +220,14 @@ module _ (g : Fields) (x : Passed g) where
         c_below = below g.c (2 ^ g.w) q;
       }
 
-  ranges3 : g.kind ≡ 3 → TwistRanges g
+  pub ranges3 : g.kind ≡ 3 → TwistRanges g
   unfolding bad_size bad_bits bad_shift bad_own
   ranges3 e =
       let (s, t) = pair_inside g.s g.t (sym (is_three g.kind _ _ _ _ e) ∙ x.shift) in
       let c : wide_word g ≡ false = sym (is_three g.kind _ _ _ _ e) ∙ own_value in
       twist_ranges (sym (is_three g.kind _ _ _ _ e) ∙ x.size) (ap (λ n. outside 1 n g.bits) (sym (is_three g.kind _ _ _ _ e)) ∙ x.bits) s t c
 
-  ranges4 : g.kind ≡ 4 → Ranges4 g
+  pub ranges4 : g.kind ≡ 4 → Ranges4 g
   unfolding bad_size bad_bits bad_shift bad_own
   ranges4 e =
       let (z, p) = or-none (bad_twist g) (not (ltb g.p g.w)) (sym (is_four g.kind _ _ _ _ e) ∙ x.size) in
@@ -239,12 +239,6 @@ module _ (g : Fields) (x : Passed g) where
       let (u₁, u₂) = inside 1 g.w g.u u in
       let (v₁, v₂) = inside 1 g.w g.v v in
       record { twist = y; p_most = below g.p g.w p; u_least = u₁; u_most = u₂; v_least = v₁; v_most = v₂ }
-
-pub accepted : (g : Fields) → lowest (field_cases g) ≡ 0 → Accepted g
-accepted g e =
-    let x : Passed g = all_passed g e in
-    let (a, b) = inside 1 4 g.kind x.kind in
-    record { kind_least = a; kind_most = b; one = ranges1 g x; two = ranges2 g x; three = ranges3 g x; four = ranges4 g x }
 
 -- ---- an accepted generator's machine reads the first k bits of its state alone
 

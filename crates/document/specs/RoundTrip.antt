@@ -1,7 +1,7 @@
 -- The proofs that reading what was written gives the same generator, and writing what was read the same bytes.
 use Rattle.std.specs.Prelude.{◌≡◌, refl, false, not, ◌&&◌, ◌||◌, List, [], ◌∷◌, ◌++◌, ℕ, zero, suc, ◌+◌, ◌-◌, ◌*◌, ◌/◌, ◌%◌, ◌^◌, ◌≤◌, ◌<◌, eqb, ltb, length, drop, replicate}
 use Rattle.std.proofs.Math.Path.{sym, ap}
-use Rattle.std.proofs.Common.{ap₂, ◌∙◌, true≢false, arith, shr-shr, length-drop, drop_of_length-le, drop-cons, ext_get_or, le-ltb, eq-eqb, ne_eqb, eqb-true}
+use Rattle.std.proofs.Common.{ap₂, ◌∙◌, true≢false, arith, shr-shr, length-drop, drop_of_length-le, drop-cons, ext_get_or, le-ltb, eqb-true}
 use Rattle.std.proofs.Math.Logic.{by_cases}
 use Rattle.std.proofs.Math.Decide.{ℕ_discrete}
 use Rattle.std.proofs.Math.ListN.{get_or}
@@ -15,9 +15,9 @@ use Rattle.document.specs.declared.Fields.{Fields}
 use Rattle.document.specs.Limits.{coefficient_bytes}
 use Rattle.document.specs.Generator.{coefficient}
 use Rattle.document.specs.Description.{bytes, number, length_of, description, fields_of}
-use Rattle.document.specs.Refusals.{outside, bad_kind, one_set, stray_one, stray_twist, stray_field, coefficient_past, bad_own, bad_value, lowest, range_cases, read_refusal, field_refusal}
+use Rattle.document.specs.Refusals.{outside, one_set, stray_one, stray_twist, stray_field, coefficient_past, read_refusal, field_refusal}
 use Rattle.document.specs.Lowest.{skips}
-use Rattle.document.specs.Ranges.{is_one, is_two, is_three, is_four, or-none, inside, any_none, passed, Accepted, accepted, cases}
+use Rattle.document.specs.Ranges.{is_one, is_two, is_three, is_four, or-none, inside, any_none, passed, Accepted, cases}
 
 -- what every value of the struct is: each number fits its bytes
 pub record Sized (g : Fields) : Type 0 where
@@ -116,7 +116,7 @@ no_coefficients g x e =
 -- ---- read after write
 
 module _ (g : Fields) (x : Sized g) (y : stray_field g ≡ false) where
-  again_one : g.kind ≡ 1 → fields_of (description g) ≡ g
+  pub again_one : g.kind ≡ 1 → fields_of (description g) ≡ g
   unfolding description fields_of bytes number stray_field
   again_one e =
       let (r, y₁) = or-none (nonzero g.r) _ (sym (is_one g.kind _ _ _ _ e) ∙ y) in
@@ -144,7 +144,7 @@ module _ (g : Fields) (x : Sized g) (y : stray_field g ≡ false) where
         coefficients = take_all coefficient_bytes g.coefficients (omega (arith, x.long)) i;
       })
 
-  again_two : g.kind ≡ 2 → fields_of (description g) ≡ g
+  pub again_two : g.kind ≡ 2 → fields_of (description g) ≡ g
   unfolding description fields_of bytes number stray_field stray_one
   again_two e =
       let (o, y₁) = or-none (stray_one g) _ (sym (is_two g.kind _ _ _ _ e) ∙ y) in
@@ -172,7 +172,7 @@ module _ (g : Fields) (x : Sized g) (y : stray_field g ≡ false) where
         coefficients = take_all coefficient_bytes g.coefficients (omega (arith, x.long)) i;
       })
 
-  again_three : g.kind ≡ 3 → fields_of (description g) ≡ g
+  pub again_three : g.kind ≡ 3 → fields_of (description g) ≡ g
   unfolding description fields_of bytes number stray_field stray_one
   again_three e =
       let (o, y₁) = or-none (stray_one g) _ (sym (is_three g.kind _ _ _ _ e) ∙ y) in
@@ -201,7 +201,7 @@ module _ (g : Fields) (x : Sized g) (y : stray_field g ≡ false) where
         coefficients = sym (no_coefficients g x y₃) i;
       })
 
-  again_four : g.kind ≡ 4 → fields_of (description g) ≡ g
+  pub again_four : g.kind ≡ 4 → fields_of (description g) ≡ g
   unfolding description fields_of bytes number stray_field stray_one
   again_four e =
       let (o, y₁) = or-none (stray_one g) (coefficient_past g 0) (sym (is_four g.kind _ _ _ _ e) ∙ y) in
@@ -227,21 +227,9 @@ module _ (g : Fields) (x : Sized g) (y : stray_field g ≡ false) where
         coefficients = sym (no_coefficients g x y₁) i;
       })
 
--- reading what was written gives the same generator
-pub written_read : (g : Fields) → Sized g → field_refusal g ≡ 0 → fields_of (description g) ≡ g
-unfolding field_refusal bad_value
-written_read g x e =
-    let (_, e₁) = passed 0 _ _ e in
-    let (_, e₂) = passed 2 _ _ e₁ in
-    let (_, e₃) = passed 3 _ _ e₂ in
-    let (_, e₄) = passed 4 _ _ e₃ in
-    let (f, _) = passed 5 (bad_value g) _ e₄ in
-    let (_, y) = or-none (bad_own g) (stray_field g) f in
-    cases g (accepted g e) (again_one g x y) (again_two g x y) (again_three g x y) (again_four g x y)
-
 -- ---- what was written is accepted
 
-written_length : (g : Fields) → Sized g → Accepted g → length (description g) ≡ length_of g.kind
+pub written_length : (g : Fields) → Sized g → Accepted g → length (description g) ≡ length_of g.kind
 unfolding description bytes
 written_length g x a =
     cases g a
@@ -253,26 +241,9 @@ written_length g x a =
     long : (cs : List ℕ) → length cs ≡ 60 → suc (suc (suc (suc (suc (length cs))))) ≡ 65
     long cs e = omega arith
 
-head_kind : (g : Fields) → get_or (description g) 0 0 ≡ g.kind
+pub head_kind : (g : Fields) → get_or (description g) 0 0 ≡ g.kind
 unfolding description
 head_kind g = refl
-
-pub written_accepted : (g : Fields) → Sized g → field_refusal g ≡ 0 → read_refusal (description g) ≡ 0
-unfolding field_refusal read_refusal
-written_accepted g x e =
-    let a : Accepted g = accepted g e in
-    let (k, r) = passed 0 (bad_kind g) _ e in
-    let n : length (description g) ≡ length_of g.kind = written_length g x a in
-    let some : length (description g) ≡ 0 → ⊥ = λ z. omega (arith, length_of_some g a, n, z) in
-    sym
-    (skips 0 1 _ _ _ refl (ap₂ ◌||◌ (ne_eqb (length (description g)) 0 some) (ap (outside 1 4) (head_kind g) ∙ k))
-    (skips 0 2 _ _ _ refl (ap not (eq-eqb (length (description g)) (length_of (get_or (description g) 0 0)) (n ∙ ap length_of (sym (head_kind g)))))
-    (sym r ∙ ap (λ h. lowest (range_cases h)) (sym (written_read g x e)))))
-  where
-    length_of_some : (g : Fields) → Accepted g → 0 < length_of g.kind
-    length_of_some g a = cases g a
-        (λ e. rw (is_one {A = ℕ} g.kind 65 65 21 24 e) (omega arith)) (λ e. rw (is_two {A = ℕ} g.kind 65 65 21 24 e) (omega arith))
-        (λ e. rw (is_three {A = ℕ} g.kind 65 65 21 24 e) (omega arith)) (λ e. rw (is_four {A = ℕ} g.kind 65 65 21 24 e) (omega arith))
 
 -- ---- write after read
 

@@ -11,10 +11,10 @@ use Rattle.theory.specs.Def.{◌⊕◌, xorsum, unit, pair}
 use Rattle.theory.specs.Laws.{⊕_self, ⊕_comm, xor-ac, xorsum_cong, xorsum-none}
 use Rattle.theory.specs.Sums.{xorsum_head, xorsum_rev, xorsum-times, unit_other, pair-sum, pair-sum_r, pair_comm, pair_same, pair-none, pair-append, pair_cut, pair_scale, pair-unit, pair-rows}
 use Rattle.digits.specs.Def.{Word, Same, Clear}
-use Rattle.kinds.specs.Generator.{times, ◌⊻◌, masked, right, left, join, twist, add_left, add_right, temper3, temper4, next_bit, stepped, word, enter, next2, next4, tausworthe, gfsr, mersenne}
+use Rattle.kinds.specs.Generator.{times, ◌⊻◌, masked, right, left, join, twist, add_left, add_right, temper3, temper4, next_bit, stepped, word, enter, next2, tausworthe, gfsr}
 use Rattle.kinds.specs.Reads.{same_cond, same_sum, same_left, same_right, word_in}
 use Rattle.kinds.specs.Recurrence.{times-first}
-use Rattle.kinds.specs.Transpose.{place, down, taps, back1, first1, back2, untwist, back4, un_right, un_left, first4, Transposed}
+use Rattle.kinds.specs.Transpose.{place, down, taps, back1, first1, back2, untwist, un_right, un_left, first4, Transposed}
 
 -- ---- places
 
@@ -40,7 +40,7 @@ pub same_place : (pos n : ℕ) (x y : Word) → Same n x y → (i : ℕ) → pla
 unfolding place
 same_place pos n x y e i = ap (cond (ltb i pos) false) (same_cond (i - pos) n (e (i - pos)) (λ _. refl))
 
-pair_place : (k pos n : ℕ) (y s : Word) → pos + n ≤ k → pair k (place pos n y) s ≡ pair n y (λ j. s (pos + j))
+pub pair_place : (k pos n : ℕ) (y s : Word) → pos + n ≤ k → pair k (place pos n y) s ≡ pair n y (λ j. s (pos + j))
 pair_place k pos n y s l =
     pair_cut (pos + n) k (place pos n y) s l (λ b h _. place_past pos n y b h)
     ∙ pair-append pos n (place pos n y) s
@@ -48,14 +48,14 @@ pair_place k pos n y s l =
 
 -- ---- a word that enters
 
-pair-enter : (w q : ℕ) (ρ new s : Word) → pair (w + q) ρ (enter w new s) ≡ pair w ρ new ⊕ pair q (λ i. ρ (w + i)) s
+pub pair-enter : (w q : ℕ) (ρ new s : Word) → pair (w + q) ρ (enter w new s) ≡ pair w ρ new ⊕ pair q (λ i. ρ (w + i)) s
 unfolding enter
 pair-enter w q ρ new s =
     pair-append w q ρ (enter w new s)
     ∙ ap₂ ◌⊕◌ (pair_same w ρ ρ _ new (λ _ _. refl) (λ i h. rw (lt-ltb i w h)))
     (pair_same q _ _ _ s (λ _ _. refl) (λ i h. let a : w ≤ w + i = omega arith in let e : w + i - w ≡ i = omega arith in rw (le-ltb (w + i) w a, e)))
 
-pair-down : (w q : ℕ) (ρ s : Word) → Clear (w + q) ρ → pair (w + q) (down w ρ) s ≡ pair q (λ i. ρ (w + i)) s
+pub pair-down : (w q : ℕ) (ρ s : Word) → Clear (w + q) ρ → pair (w + q) (down w ρ) s ≡ pair q (λ i. ρ (w + i)) s
 unfolding down
 pair-down w q ρ s c =
     pair_cut q (w + q) (down w ρ) s (omega arith) (λ i h _. c (i + w) (omega arith))
@@ -206,7 +206,7 @@ pair-untwist v a y x =
     (ap (λ b. b ⊕ ((xorsum v (λ i. a i && y i) ⊕ a v && y v) && x v))
     (xorsum_cong v _ _ (λ i h. let g : suc i < suc v = omega arith in rw (lt-ltb (suc i) (suc v) g))))
 
-pair-twist : (w : ℕ) (a y x : Word) → 1 ≤ w → pair w y (twist w a x) ≡ pair w (untwist w a y) x
+pub pair-twist : (w : ℕ) (a y x : Word) → 1 ≤ w → pair w y (twist w a x) ≡ pair w (untwist w a y) x
 unfolding twist ◌⊻◌
 pair-twist zero a y x h = absurd (omega arith)
 pair-twist (suc v) a y x h =
@@ -215,7 +215,7 @@ pair-twist (suc v) a y x h =
     ∙ ap₂ ◌⊕◌ (right-pair v y x) (pair_last (suc v) a y (x (suc v - 1)) ∙ ap (λ i. xorsum (suc v) (λ i. a i && y i) && x i) e)
     ∙ sym (pair-untwist v a y x)
 
-pair-join : (n p : ℕ) (z x y : Word) → pair (n + p) z (join n x y) ≡ pair n z x ⊕ pair p (λ j. z (n + j)) (λ j. y (n + j))
+pub pair-join : (n p : ℕ) (z x y : Word) → pair (n + p) z (join n x y) ≡ pair n z x ⊕ pair p (λ j. z (n + j)) (λ j. y (n + j))
 unfolding join
 pair-join n p z x y =
     pair-append n p z (join n x y)
@@ -227,63 +227,8 @@ pub same_untwist : (w : ℕ) (a x y : Word) → Same w x y → Same w (untwist w
 unfolding untwist
 same_untwist w a x y e j h = same_cond (suc j) w (e (suc j)) (λ _. xorsum_cong w _ _ (λ i g. ap (λ b. a i && b) (e i g)))
 
-four : (a b c d : Bool) → b ⊕ (c ⊕ d) ⊕ a ≡ a ⊕ b ⊕ c ⊕ d
+pub four : (a b c d : Bool) → b ⊕ (c ⊕ d) ⊕ a ≡ a ⊕ b ⊕ c ⊕ d
 four a b c d = simp xor-ac
-
--- ---- kind 4: a move
-
-module _ (r m w p : ℕ) (a ρ s : Word) (pm : 1 ≤ m) (l : m < r) (q : p < w) (c : Clear (r * w - p) ρ) where
-  abbrev rest : ℕ
-  rest = r * w - p - w
-
-  whole : (r - 1) * w + w ≤ r * w
-  whole = word_in (r - 1) r w (omega arith)
-
-  next : (r - 2) * w + w ≤ (r - 1) * w
-  next = word_in (r - 2) (r - 1) w (omega arith)
-
-  mid : (r - m - 1) * w + w ≤ (r - 1) * w
-  mid = word_in (r - m - 1) (r - 1) w (omega arith)
-
-  split : r * w - p ≡ w + rest
-  split = omega (arith, whole, next)
-
-  abbrev z : Word
-  z = untwist w a ρ
-
-  joined : pair w z (join (w - p) (word w (r - 1) s) (word w (r - 2) s)) ≡ pair (w - p) z (word w (r - 1) s) ⊕ pair p (λ j. z (w - p + j)) (λ j. word w (r - 2) s (w - p + j))
-  joined =
-      let e : w ≡ (w - p) + p = omega arith in
-      ap (λ n. pair n z (join (w - p) (word w (r - 1) s) (word w (r - 2) s))) e ∙ pair-join (w - p) p z (word w (r - 1) s) (word w (r - 2) s)
-
-  back4-sum : pair (r * w - p) (back4 r m w p a ρ) s ≡ pair (r * w - p) ρ (enter w (next4 r m w p a s) s)
-  unfolding next4 back4 word ◌⊻◌
-  back4-sum =
-      pair-sum (r * w - p) _ (place ((r - 2) * w + (w - p)) p (λ j. z (w - p + j))) s
-      ∙ ap₂ ◌⊕◌
-      (pair-sum (r * w - p) _ (place ((r - 1) * w) (w - p) z) s
-      ∙ ap₂ ◌⊕◌
-      (pair-sum (r * w - p) (down w ρ) (place ((r - m - 1) * w) w ρ) s
-      ∙ ap₂ ◌⊕◌ (ap (λ n. pair n (down w ρ) s) split ∙ pair-down w rest ρ s (rw split at c)) (pair_place (r * w - p) ((r - m - 1) * w) w ρ s (omega (arith, whole, mid))))
-      (pair_place (r * w - p) ((r - 1) * w) (w - p) z s (omega (arith, whole))))
-      (pair_place (r * w - p) ((r - 2) * w + (w - p)) p (λ j. z (w - p + j)) s (omega (arith, whole, next))
-      ∙ pair_same p _ _ _ _ (λ _ _. refl) (λ j h. let e : (r - 2) * w + (w - p) + j ≡ (r - 2) * w + (w - p + j) = omega arith in ap s e))
-      ∙ sym
-      (ap (λ n. pair n ρ (enter w (next4 r m w p a s) s)) split
-      ∙ pair-enter w rest ρ _ s
-      ∙ ap (λ b. b ⊕ pair rest (λ i. ρ (w + i)) s)
-      (pair-sum_r w ρ (word w (r - m - 1) s) _ ∙ ap (λ b. pair w ρ (word w (r - m - 1) s) ⊕ b) (pair-twist w a ρ _ (omega arith) ∙ joined))
-      ∙ four (pair rest (λ i. ρ (w + i)) s) _ _ _)
-
-  back4_clear : Clear (r * w - p) (back4 r m w p a ρ)
-  unfolding back4 ◌⊻◌
-  back4_clear i h =
-      rw (
-        lowered_clear w (r * w - p) ρ c i h,
-        place_past ((r - m - 1) * w) w ρ i (omega (arith, whole, mid)),
-        place_past ((r - 1) * w) (w - p) (untwist w a ρ) i (omega (arith, whole)),
-        place_past ((r - 2) * w + (w - p)) p (λ j. untwist w a ρ (w - p + j)) i (omega (arith, whole, next)),
-      )
 
 -- ---- kind 4: tempering
 
@@ -317,7 +262,7 @@ pair-add_left w u b y x h =
     ∙ ap (λ q. pair w y x ⊕ q) (pair-masked w b y (left w u x) ∙ pair_left w u (masked b y) x h)
     ∙ sym (pair-sum w y (right u (masked b y)) x)
 
-first4-sum : (k w U S : ℕ) (b : Word) (T : ℕ) (c : Word) (Z j : ℕ) (s : Word) → w ≤ k → U ≤ w → S ≤ w → T ≤ w → Z ≤ w → j < w
+pub first4-sum : (k w U S : ℕ) (b : Word) (T : ℕ) (c : Word) (Z j : ℕ) (s : Word) → w ≤ k → U ≤ w → S ≤ w → T ≤ w → Z ≤ w → j < w
     → pair k (place 0 w (first4 w U S b T c Z j)) s ≡ temper4 w U S b T c Z (word w 0 s) j
 unfolding first4 temper4 temper3 word
 first4-sum k w U S b T c Z j s l hU hS hT hZ h =
@@ -335,15 +280,3 @@ same_un_right w u x y e = same_sum w x y e _ _ (same_left w x y e u)
 pub same_un_left : (w u : ℕ) (b x y : Word) → Same w x y → Same w (un_left u b x) (un_left u b y)
 unfolding un_left masked
 same_un_left w u b x y e = same_sum w x y e _ _ (same_right w _ _ (λ j h. ap (λ z. b j && z) (e j h)) u)
-
-pub mersenne-rows : (r m w p L : ℕ) (a : Word) (U S : ℕ) (b : Word) (T : ℕ) (c : Word) (Z : ℕ) → 1 ≤ m → m < r → p < w → L ≤ w → U ≤ w → S ≤ w → T ≤ w → Z ≤ w
-    → Transposed (mersenne r m w p L a U S b T c Z) (back4 r m w p a) (λ j. place 0 w (first4 w U S b T c Z j))
-unfolding mersenne
-mersenne-rows r m w p L a U S b T c Z pm l q o hU hS hT hZ =
-    let inside : w ≤ r * w - p = omega (arith, word_in 1 r w (omega arith)) in
-    record {
-      back_clear = λ ρ h. back4_clear r m w p a ρ ρ pm l q h;
-      back_sum = λ ρ s h. back4-sum r m w p a ρ s pm l q h;
-      first_clear = λ j h i g. place_past 0 w _ i (omega arith);
-      first_sum = λ j s h. first4-sum (r * w - p) w U S b T c Z j s inside hU hS hT hZ (omega arith);
-    }

@@ -4,7 +4,6 @@ pub mod Examples
 pub mod Theorems
 pub mod Linear
 pub mod Reads
-pub mod Single
 pub mod Recurrence
 pub mod Alike
 pub mod Transpose

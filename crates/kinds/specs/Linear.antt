@@ -2,10 +2,10 @@
 use Rattle.std.specs.Prelude.{◌≡◌, refl, Bool, true, false, ◌&&◌, cond, ℕ, zero, suc, ◌+◌, ◌-◌, ◌*◌, ltb}
 use Rattle.std.proofs.Common.{ap, ap₂, ◌∙◌}
 use Rattle.std.proofs.Math.Path.{fun_ext}
-use Rattle.theory.specs.Def.{◌⊕◌, xorsum, bit, Linear}
-use Rattle.theory.specs.Laws.{⊕_swap, and-⊕, xorsum-⊕, xorsum_cong, bit-⊞}
+use Rattle.theory.specs.Def.{◌⊕◌, xorsum}
+use Rattle.theory.specs.Laws.{⊕_swap, and-⊕, xorsum-⊕, xorsum_cong}
 use Rattle.digits.specs.Def.{Word}
-use Rattle.kinds.specs.Generator.{Machine, times, output_bit, ◌⊻◌, masked, right, left, join, twist, add_left, add_right, temper3, temper4, next_bit, stepped, word, enter, next2, next3, next4, tausworthe, gfsr, twisted, mersenne}
+use Rattle.kinds.specs.Generator.{Machine, times, ◌⊻◌, masked, right, left, join, twist, add_left, add_right, temper3, temper4, next_bit, stepped, word, enter, next2, next3, next4, tausworthe, gfsr, twisted, mersenne}
 
 -- a map of words that keeps sums
 abbrev pub Lin : (Word → Word) → Type 0
@@ -21,7 +21,7 @@ lin_sum : (f g : Word → Word) → Lin f → Lin g → Lin (λ s. f s ⊻ g s)
 unfolding ◌⊻◌
 lin_sum f g l m s t = fun_ext (λ j. ap₂ (λ x y. x j ⊕ y j) (l s t) (m s t) ∙ ⊕_swap (f s j) (f t j) (g s j) (g t j))
 
-lin_then : (f g : Word → Word) → Lin f → Lin g → Lin (λ s. f (g s))
+pub lin_then : (f g : Word → Word) → Lin f → Lin g → Lin (λ s. f (g s))
 lin_then f g l m s t = ap f (m s t) ∙ l (g s) (g t)
 
 -- bits of two linear words, picked by their places
@@ -45,7 +45,7 @@ lin_none s t = refl
 lin_id : Lin (λ x. x)
 lin_id s t = refl
 
-lin_times : (n : ℕ) (f : Word → Word) → Lin f → Lin (times n f)
+pub lin_times : (n : ℕ) (f : Word → Word) → Lin f → Lin (times n f)
 unfolding times
 lin_times zero f l = lin_id
 lin_times (suc n) f l = lin_then _ _ l (lin_times n f l)
@@ -143,12 +143,3 @@ pub mersenne_linear : (r m w p L : ℕ) (a : Word) (U S : ℕ) (b : Word) (T : �
 unfolding mersenne
 mersenne_linear r m w p L a U S b T c Z =
     record { move = lin_enter w _ (lin_next4 r m w p a); out = lin_then _ _ (lin_temper4 w U S b T c Z) (lin_word w 0) }
-
--- so each bit of each output is a sum of bits of the start state
-pub output_sums : (M : Machine) → LinearMachine M → (n j : ℕ) (s t : Word) → output_bit M n j (s ⊻ t) ≡ output_bit M n j s ⊕ output_bit M n j t
-unfolding output_bit ◌⊻◌
-output_sums M l n j s t = ap (λ x. x j) (lin_then M.out (times n M.move) l.out (lin_times n M.move l.move) s t)
-
-pub output_linear : (M : Machine) → LinearMachine M → (n j : ℕ) {k : ℕ} → Linear {k = k} (λ s. output_bit M n j (bit s))
-unfolding ◌⊻◌
-output_linear M l n j s t = ap (output_bit M n j) (fun_ext (bit-⊞ s t)) ∙ output_sums M l n j (bit s) (bit t)

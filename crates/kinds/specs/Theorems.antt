@@ -1,7 +1,8 @@
--- What is proved of the four kinds: every move and output is linear, bits from k on play no part, and the recurrences of document 01 hold for every n.
+-- What is proved of the four kinds: every move and output is linear, bits from k on play no part, and the recurrences of document 01 hold for every n. (That each bit of each
+-- output is a sum of bits of the start state is in `proofs/Outputs.antt` and `proofs/Single.antt`.)
 use Rattle.std.specs.Prelude.{◌≡◌, refl, Bool, ◌&&◌, ℕ, suc, ◌+◌, ◌-◌, ◌*◌, ◌≤◌, ◌<◌}
 use Rattle.std.proofs.Common.{ap, ap₂, ◌∙◌, arith}
-use Rattle.theory.specs.Def.{xorsum, unit, pair, bit, Linear}
+use Rattle.theory.specs.Def.{xorsum}
 use Rattle.theory.specs.Laws.{xorsum_cong}
 use Rattle.digits.specs.Def.{Word, Same}
 use Rattle.kinds.specs.Generator.{Machine, times, output_bit, ◌⊻◌, join, twist, temper3, temper4, stepped, word, next2, next3, next4, tausworthe, gfsr, twisted, mersenne}
@@ -9,7 +10,6 @@ use Rattle.kinds.specs.Linear.{LinearMachine}
 use Rattle.kinds.specs.Linear as L
 use Rattle.kinds.specs.Reads.{LocalMachine}
 use Rattle.kinds.specs.Reads as R
-use Rattle.kinds.specs.Single as S
 use Rattle.kinds.specs.Recurrence as N
 
 -- ---- linear, and local
@@ -26,10 +26,6 @@ twisted_linear = L.twisted_linear
 pub mersenne_linear : (r m w p L : ℕ) (a : Word) (U S : ℕ) (b : Word) (T : ℕ) (c : Word) (Z : ℕ) → LinearMachine (mersenne r m w p L a U S b T c Z)
 mersenne_linear = L.mersenne_linear
 
--- each bit of each output is then a sum of bits of the start state
-pub output_linear : (M : Machine) → LinearMachine M → (n j : ℕ) {k : ℕ} → Linear {k = k} (λ s. output_bit M n j (bit s))
-output_linear = L.output_linear
-
 pub tausworthe_local : (k L ν : ℕ) (a : Word) → 1 ≤ k → LocalMachine (tausworthe k L ν a)
 tausworthe_local = R.tausworthe_local
 
@@ -45,11 +41,6 @@ mersenne_local = R.mersenne_local
 -- each bit of each output is then the same from start states with the same first k bits
 pub output_local : (M : Machine) → LocalMachine M → (n j : ℕ) → j < M.width → (s t : Word) → Same M.size s t → output_bit M n j s ≡ output_bit M n j t
 output_local = R.output_local
-
--- and it is the sum of those of the k bits that alone set it
-pub output_single : (M : Machine) → LinearMachine M → LocalMachine M → (n j : ℕ) → j < M.width → (s : Word)
-    → output_bit M n j s ≡ pair M.size (λ b. output_bit M n j (unit b)) s
-output_single = S.output_single
 
 -- ---- kind 1: x_n is the first bit of the state after n steps
 

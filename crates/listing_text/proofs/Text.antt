@@ -13,7 +13,7 @@ use Rattle.document.specs.Description.{fields_of}
 use Rattle.document.specs.Refusals.{field_cases, field_refusal, read_refusal, report_refusal}
 use Rattle.document.specs.Lowest.{skips, none_left, then_of, field_rises}
 use Rattle.document.specs.Ranges.{Accepted}
-use Rattle.document.specs.Theorems.{ranges}
+use Rattle.document.proofs.Theorems.{ranges}
 use Rattle.document.specs.Theorems as D
 use Rattle.document.specs.Report.{most_resolution, resolution_gap, most_dimension, dimension_gap, resolution_sum, dimension_sum, is_me}
 use Rattle.tables.specs.Theorems.{at_place}

@@ -10,7 +10,8 @@ use Rattle.document.specs.Refusals.{Case, lowest, read_cases, read_refusal}
 use Rattle.document.specs.Ranges.{Accepted}
 use Rattle.document.specs.Largest.{largest_is}
 use Rattle.document.specs.Report.{total, most_resolution, resolution, resolution_gap, most_dimension, dimension, dimension_gap, resolution_sum, dimension_sum}
-use Rattle.document.specs.Theorems.{read_accepted, ranges, size_most, width_most}
+use Rattle.document.specs.Theorems.{read_accepted, width_most}
+use Rattle.document.proofs.Theorems.{ranges, size_most}
 use Rattle.listing_text.specs.Text.{most_number}
 
 abbrev pub AllSmall : List ℕ → Type 0

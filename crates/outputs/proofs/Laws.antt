@@ -22,7 +22,7 @@ use Rattle.document.specs.Refusals.{outside, any, lowest, field_cases, field_ref
 use Rattle.document.specs.Lowest.{first_of, then_of, field_rises}
 use Rattle.document.specs.Ranges.{Accepted, passed}
 use Rattle.outputs.specs.Promises.{RanAs}
-use Rattle.document.specs.Theorems.{ranges}
+use Rattle.document.proofs.Theorems.{ranges}
 use Rattle.running.specs.declared.Prepared.{Prepared}
 use Rattle.running.specs.Prepared.{PreparedFor, machine_of}
 use Rattle.running.specs.Theorems.{After, after_none, after_more, after_output, prepared_size, prepared_output}

@@ -20,7 +20,8 @@ use Rattle.document.specs.Limits.{row_words, most_bits, work_words}
 use Rattle.document.specs.Generator.{machine, size}
 use Rattle.document.specs.Refusals.{field_cases, outside, question_refusal}
 use Rattle.document.specs.Lowest.{field_rises, after}
-use Rattle.document.specs.Ranges.{Accepted, accepted, passed, inside}
+use Rattle.document.specs.Ranges.{Accepted, passed, inside}
+use Rattle.document.proofs.Accepted.{accepted}
 use Rattle.document.specs.Cells.{cell_bit, Answer}
 use Rattle.document.specs.Memory.{Front}
 use Rattle.document.specs.Theorems.{machine_linear, cell_linear, yes_is_even}

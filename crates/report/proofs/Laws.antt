@@ -11,7 +11,8 @@ use Rattle.document.specs.declared.Fields.{Fields}
 use Rattle.document.specs.Limits.{work_words}
 use Rattle.document.specs.Generator.{machine}
 use Rattle.document.specs.Memory.{Front}
-use Rattle.document.specs.Ranges.{Accepted, accepted, passed}
+use Rattle.document.specs.Ranges.{Accepted, passed}
+use Rattle.document.proofs.Accepted.{accepted}
 use Rattle.document.specs.Refusals.{field_cases, report_refusal}
 use Rattle.document.specs.Lowest.{after, field_rises}
 use Rattle.document.specs.Cells.{is_yes}

@@ -15,7 +15,7 @@ use Rattle.digits.specs.Def.{Same, Clear, digit, bits_of}
 use Rattle.digits.specs.Laws.{digit-mod, digit-shr}
 use Rattle.kinds.specs.Generator.{◌⊻◌, mersenne}
 use Rattle.kinds.specs.Transpose.{down, place, untwist, un_left, un_right, first4, back4}
-use Rattle.kinds.specs.Rows.{mersenne-rows}
+use Rattle.kinds.proofs.KindFour.{mersenne-rows}
 use Rattle.kinds.specs.Adjoint.{same_place, same_untwist, same_un_left, same_un_right}
 use Rattle.kinds.specs.Reads.{word_in}
 use Rattle.states.specs.Post.{Holds}

@@ -7,7 +7,7 @@ use Rattle.std.proofs.Math.Decide.{dec_lt}
 use Rattle.theory.specs.Def.{xorsum, unit, pair, Bits, bit, tabulate, Linear, Equidistributed, Dependent, Independent}
 use Rattle.theory.specs.Laws.{bit-tabulate, xorsum_cong, xorsum-none}
 use Rattle.theory.specs.Sums.{pair-rows, pair-none, pair_same, pair-unit}
-use Rattle.theory.specs.Theorems as Machine
+use Rattle.theory.proofs.Theorems as Counted
 use Rattle.digits.specs.Def.{Word}
 use Rattle.span.specs.Def.{DependentRows, IndependentRows, RowsOf, FirstSet}
 
@@ -37,23 +37,13 @@ module _ {k L n : ℕ} {row : ℕ → Word} {out : ℕ → Bits k → Bool} (x :
 
   module _ (linear : (i : ℕ) → Linear (out i)) where
     pub independent_even : (m : ℕ) → m ≤ n → IndependentRows L row m → Equidistributed out m
-    independent_even m h y = (Machine.equidistribution out linear m).1 (independent_outputs m h y)
+    independent_even m h y = (Counted.equidistribution out linear m).1 (independent_outputs m h y)
 
     pub dependent_uneven : (d : ℕ) (S : ℕ → Bool) → d < n → DependentRows L row d S → (m : ℕ) → d < m → ¬ Equidistributed out m
-    dependent_uneven d S h y m l e = (Machine.equidistribution out linear m).0 e d l S (dependent_outputs d h S y)
-
-    pub first_set : (d : ℕ) (S : ℕ → Bool) → d < n → DependentRows L row d S → IndependentRows L row d → FirstSet out d S
-    first_set d S h y z =
-        let s : Dependent out d S = dependent_outputs d h S y in
-        record {
-          set = s;
-          only = λ R r. Machine.unique out linear d (independent_outputs d (omega arith) z) R S r s;
-          even = λ m l. independent_even m (omega arith) (λ e b. z e (omega arith));
-          uneven = dependent_uneven d S h y;
-        }
+    dependent_uneven d S h y m l e = (Counted.equidistribution out linear m).0 e d l S (dependent_outputs d h S y)
 
     pub rows_bound : (m : ℕ) → m ≤ n → IndependentRows L row m → m ≤ k
-    rows_bound m h y = Machine.bound out linear m (independent_even m h y)
+    rows_bound m h y = Counted.bound out linear m (independent_even m h y)
 
 -- there is one first set only
 module _ {k d e : ℕ} {out : ℕ → Bits k → Bool} {S T : ℕ → Bool} (x : FirstSet out d S) (y : FirstSet out e T) where

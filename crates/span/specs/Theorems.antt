@@ -55,10 +55,6 @@ module _ {k L n : ℕ} {row : ℕ → Word} {out : ℕ → Bits k → Bool} (x :
     pub uneven : (d : ℕ) (S : ℕ → Bool) → d < n → DependentRows L row d S → (m : ℕ) → d < m → ¬ Equidistributed out m
     uneven = Outputs.dependent_uneven x linear
 
-    -- The first dependent set of rows is the first of the output bits, and there is no other that ends there.
-    pub first_set : (d : ℕ) (S : ℕ → Bool) → d < n → DependentRows L row d S → IndependentRows L row d → FirstSet out d S
-    first_set = Outputs.first_set x linear
-
 -- Two first sets are one.
 pub first_unique : {k d e : ℕ} {out : ℕ → Bits k → Bool} {S T : ℕ → Bool} → FirstSet out d S → FirstSet out e T → (d ≡ e) × ((i : ℕ) → i < suc d → S i ≡ T i)
 first_unique x y = (Outputs.first-place x y, Outputs.first_only x y)

@@ -1,29 +1,13 @@
--- The theorems (`Def.antt` has the definitions). `out` are the output bits of a machine whose state has k bits.
-use Rattle.std.specs.Prelude.{◌≡◌, Bool, true, ◌⊎◌, ◌↔◌, ℕ, suc, ◌-◌, ◌^◌, ◌≤◌, ◌<◌}
-use Rattle.theory.specs.Def.{Bits, Linear, hits, Equidistributed, evenly, Cancels, NonEmpty, Dependent, Independent, Spanned, Reduced}
+-- Theorems (`Def.antt` has the definitions; `proofs/Theorems.antt` has the counting theorem). `out` are the output bits of a machine whose state has k bits.
+use Rattle.std.specs.Prelude.{◌≡◌, Bool, ◌⊎◌, ◌↔◌, ℕ, suc, ◌<◌}
+use Rattle.theory.specs.Def.{Bits, Linear, Cancels, NonEmpty, Dependent, Independent, Spanned, Reduced}
 use Rattle.theory.specs.Cells
 use Rattle.theory.specs.Echelon
 
 module _ {k : ℕ} (out : ℕ → Bits k → Bool) (linear : (i : ℕ) → Linear (out i)) where
-  -- The counting theorem. Every pattern of the first m output bits comes from equally many states just where no dependent set of them ends below m,
-  pub equidistribution : (m : ℕ) → Equidistributed out m ↔ Independent out m
-  equidistribution m = (Cells.equidistributed_independent out linear m, λ I. Cells.solvable_equidistributed out linear m (Cells.independent_solvable out linear m I))
-
-  -- and that is where no non-empty set of them sums to zero from every state.
+  -- No dependent set of the first m output bits ends below m just where no non-empty set of them sums to zero from every state.
   pub independent_sets : (m : ℕ) → Independent out m ↔ ((S : ℕ → Bool) → NonEmpty m S → ¬ Cancels out m S)
   independent_sets = Cells.independent_sets out
-
-  -- Counting out the patterns decides it.
-  pub counted : (m : ℕ) → (evenly out m ≡ true) ↔ Equidistributed out m
-  counted m = (Cells.evenly_equidistributed out m, Cells.equidistributed_evenly out m)
-
-  -- Each pattern then comes from exactly 2 ^ (k - m) states,
-  pub exact : (m : ℕ) → Equidistributed out m → (p : ℕ → Bool) → hits out m p ≡ 2 ^ (k - m)
-  exact = Cells.hits_power out
-
-  -- and there are no more output bits than state bits.
-  pub bound : (m : ℕ) → Equidistributed out m → m ≤ k
-  bound = Cells.equidistributed_bound out
 
   -- Either the first m output bits are independent, or there is a least d where a dependent set ends,
   pub first : (m : ℕ) → Independent out m ⊎ ((d : ℕ) × (d < m) × Independent out d × ((S : ℕ → Bool) × Dependent out d S))

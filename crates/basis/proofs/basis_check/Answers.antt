@@ -5,7 +5,7 @@ use borrow.Author.Tests.{lt-ltb, le-ltb}
 use Rattle.document.specs.Refusals.{field_cases, outside, basis_refusal, field_refusal}
 use Rattle.document.specs.Lowest.{gives, skips, none_left, first_of, then_of, field_rises}
 use Rattle.document.specs.Ranges.{inside}
-use Rattle.document.specs.Theorems.{ranges}
+use Rattle.document.proofs.Theorems.{ranges}
 use Rattle.running.specs.Theorems.{prepared_ready, prepared_size}
 use Rattle.filling.specs.Theorems.{ready-size, ready_bits, product_small, prepared_bits}
 use mathlib.Core.Path.{refl, sym, ap, ◌∙◌}

@@ -1,6 +1,6 @@
 use Rattle.running.specs.Theorems.{prepared_ready}
 use Rattle.outputs.proofs.Laws.{refused_as, room_is, ran_as, stopped_as}
-use Rattle.document.specs.Theorems.{ranges}
+use Rattle.document.proofs.Theorems.{ranges}
 use mathlib.Core.Path.{sym, ◌∙◌}
 use Rattle.outputs.proofs.outputs.Goals as goal
 

@@ -2,7 +2,7 @@
 use borrow.Author.Tests.{lt-ltb, le-ltb}
 use Rattle.document.specs.Refusals.{field_cases, outside, question_refusal, field_refusal}
 use Rattle.document.specs.Lowest.{gives, skips, none_left, first_of, then_of, field_rises}
-use Rattle.document.specs.Theorems.{ranges}
+use Rattle.document.proofs.Theorems.{ranges}
 use Rattle.running.specs.Theorems.{prepared_size}
 use Rattle.filling.specs.Theorems.{prepared_bits}
 use mathlib.Core.Path.{refl, sym, ap, ◌∙◌}

@@ -2,7 +2,7 @@
 use mathlib.Core.Path.{sym, ap, ◌∙◌}
 use Rattle.document.specs.Refusals.{lowest, pair_cases}
 use Rattle.document.specs.Lowest.{fields_first, fields_then}
-use Rattle.document.specs.Theorems.{ranges}
+use Rattle.document.proofs.Theorems.{ranges}
 use Rattle.arguments.proofs.asked.asked_refusal.Goals as goal
 
 pub returns-then-refusal-ne0 : goal.returns-then-refusal-ne0

@@ -1,6 +1,6 @@
 -- `arguments::sized`: the fields' own refusal, and then k.
 use mathlib.Core.Path.{sym, ◌∙◌}
-use Rattle.document.specs.Theorems.{ranges}
+use Rattle.document.proofs.Theorems.{ranges}
 use Rattle.arguments.proofs.sizes.sized.Goals as goal
 
 pub size-requires : goal.size-requires

@@ -11,7 +11,8 @@ use Rattle.theory.specs.Laws.{⊕_self, ⊕_false, put, put_below, put_from}
 use Rattle.theory.specs.Sums.{unit_at, unit_other}
 use Rattle.digits.specs.Def.{Word}
 use Rattle.kinds.specs.Generator.{Machine, output_bit, ◌⊻◌}
-use Rattle.kinds.specs.Linear.{LinearMachine, output_sums}
+use Rattle.kinds.specs.Linear.{LinearMachine}
+use Rattle.kinds.proofs.Outputs.{output_sums}
 use Rattle.kinds.specs.Reads.{LocalMachine, output_local}
 
 -- the first n + 1 bits of s are its first n, and bit n if it is set
