@@ -1,8 +1,7 @@
 -- Where no field is refused, the fields lie in the document's ranges.
 use Rattle.std.specs.Prelude.{◌≡◌}
 use Rattle.document.specs.declared.Fields.{Fields}
-use Rattle.document.specs.Refusals.{lowest, field_cases}
-use Rattle.document.specs.Refusals.{field_cases, field_refusal}
+use Rattle.document.specs.Refusals.{lowest, field_cases, field_refusal}
 use Rattle.document.specs.Ranges.{Accepted, Passed, all_passed, inside, ranges1, ranges2, ranges3, ranges4}
 
 pub accepted : (g : Fields) → lowest (field_cases g) ≡ 0 → Accepted g

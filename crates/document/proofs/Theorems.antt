@@ -1,4 +1,4 @@
--- What is proved of document 01's definitions, beside `specs/Theorems.antt`: a false definition breaks these.
+-- What is proved of document 01's definitions, beside `specs/Theorems.antt`: the return trip, the ranges, the numbering of bits.
 use Rattle.std.specs.Prelude.{◌≡◌, ◌↔◌, ℕ, ◌+◌, ◌*◌, ◌≤◌, ◌<◌}
 use Rattle.digits.specs.Def.{Word}
 use Rattle.kinds.specs.Generator.{Machine, output_bit}
@@ -13,8 +13,6 @@ use Rattle.document.specs.Ranges.{Accepted}
 use Rattle.document.specs.Just.{Just}
 use Rattle.document.specs.Just as J
 use Rattle.document.specs.Sizes as Z
-use Rattle.document.specs.Numbering as N
-use Rattle.document.specs.RoundTrip.{Sized}
 use Rattle.document.specs.Numbering as N
 use Rattle.document.proofs.Accepted as Q
 use Rattle.document.proofs.Just as I

@@ -1,4 +1,5 @@
--- What the refusals of the fields leave is just the document's ranges, with no field set that the kind hasn't got.
+-- What the refusals of the fields leave: the document's ranges, with no field set that the kind hasn't got. Here what that means, and the proof that
+-- such fields are not refused; `proofs/Just.antt` has the way back.
 use Rattle.std.specs.Prelude.{◌≡◌, refl, Bool, false, ◌&&◌, List, [], ◌∷◌, ℕ, zero, suc, ◌-◌, ◌*◌, ◌^◌, ◌≤◌, ◌<◌, ltb}
 use Rattle.std.proofs.Common.{◌∙◌, true≢false, arith, lt-ltb, le-ltb}
 use Rattle.std.proofs.Math.Path.{ap, ap₂}
@@ -9,9 +10,9 @@ use Rattle.digits.specs.Def.{nonzero}
 use Rattle.document.specs.declared.Fields.{Fields}
 use Rattle.document.specs.Limits.{most_bits, most_output, coefficient_bytes}
 use Rattle.document.specs.Generator.{by_kind, coefficient}
-use Rattle.document.specs.Refusals.{◌if◌, lowest, outside, any, bad_kind, bad_words, bad_twist, bad_size, bad_bits, bad_pair, bad_shift, wide_word}
+use Rattle.document.specs.Refusals.{◌if◌, lowest, outside, bad_kind, bad_words, bad_twist, bad_size, bad_bits, bad_pair, bad_shift, wide_word}
 use Rattle.document.specs.Refusals.{coefficient_past, bad_own, one_set, stray_one, stray_twist, stray_field, bad_value, field_refusal}
-use Rattle.document.specs.Ranges.{WordRanges, TwistRanges, Accepted, cases, is_one, is_two, is_three, is_four, or-none}
+use Rattle.document.specs.Ranges.{WordRanges, TwistRanges, Accepted, cases, is_one, is_two, is_three, is_four, or-none, none_any}
 
 abbrev pub AllZero : List ℕ → Type 0
 AllZero [] = Unit {0}
@@ -79,14 +80,9 @@ within : (low high x : ℕ) → low ≤ x → x ≤ high → outside low high x 
 unfolding outside
 within low high x a b = ap₂ ◌||◌ (le-ltb x low a) (le-ltb high x b)
 
-none_found : (n : ℕ) (f : ℕ → Bool) → ((i : ℕ) → i < n → f i ≡ false) → any n f ≡ false
-unfolding any
-none_found zero f h = refl
-none_found (suc n) f h = ap₂ ◌||◌ (none_found n f (λ i l. h i (omega arith))) (h n (omega arith))
-
 none_past : (g : Fields) (n : ℕ) → ((i : ℕ) → n ≤ i → i < 8 * coefficient_bytes → coefficient g i ≡ false) → coefficient_past g n ≡ false
 unfolding coefficient_past
-none_past g n h = none_found (8 * coefficient_bytes) _ (λ i l. by_cases (dec_lt i n)
+none_past g n h = none_any (8 * coefficient_bytes) _ (λ i l. by_cases (dec_lt i n)
     (λ b. ap (λ x. not x && coefficient g i) (lt-ltb i n b))
     (λ b. let p : n ≤ i = omega arith in ap (λ x. not x && coefficient g i) (le-ltb i n p) ∙ h i p l))
 

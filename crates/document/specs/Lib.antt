@@ -1,5 +1,5 @@
--- Document 01, a file for each heading, in its order: Limits to Value are definitions only, Theorems says what is proved of them,
--- Cases is the table of the starred cases, Numbering and Samples hold further computed ones. The rest are the proofs.
+-- Document 01, a file for each heading, in its order: Limits to Value are definitions only, Theorems (here and in proofs/) says what is proved of
+-- them, Cases is the table of the starred cases, Numbering and Samples hold further computed ones. The rest are the proofs.
 pub mod Limits
 pub mod Generator
 pub mod Description

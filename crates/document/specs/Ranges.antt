@@ -1,4 +1,5 @@
--- "Ranges": what holds of the fields of an accepted generator, and the proof that it does where nothing is refused. (`Just.antt` has the way back.)
+-- "Ranges": what holds of the fields of an accepted generator, and what each test of the fields leaves, kind by kind.
+-- (`proofs/Accepted.antt` puts it together.)
 use Rattle.std.specs.Prelude.{◌≡◌, refl, Bool, true, ◌&&◌, ◌||◌, List, ◌∷◌, ℕ, zero, suc, ◌+◌, ◌-◌, ◌*◌, ◌^◌, ◌≤◌, ◌<◌, ltb}
 use Rattle.std.proofs.Math.Path.{sym}
 use Rattle.std.proofs.Common.{ap, ap₂, subst, ◌∙◌, true≢false, add-one, arith}

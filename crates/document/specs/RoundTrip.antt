@@ -1,4 +1,5 @@
--- The proofs that reading what was written gives the same generator, and writing what was read the same bytes.
+-- Writing what was read gives the same bytes; and reading what was written gives the same generator, kind by kind (`proofs/RoundTrip.antt` puts that
+-- together).
 use Rattle.std.specs.Prelude.{◌≡◌, refl, false, not, ◌&&◌, ◌||◌, List, [], ◌∷◌, ◌++◌, ℕ, zero, suc, ◌+◌, ◌-◌, ◌*◌, ◌/◌, ◌%◌, ◌^◌, ◌≤◌, ◌<◌, eqb, ltb, length, drop, replicate}
 use Rattle.std.proofs.Math.Path.{sym, ap}
 use Rattle.std.proofs.Common.{ap₂, ◌∙◌, true≢false, arith, shr-shr, length-drop, drop_of_length-le, drop-cons, ext_get_or, le-ltb, eqb-true}

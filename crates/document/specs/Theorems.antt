@@ -1,5 +1,5 @@
--- What is proved of document 01's definitions. The starred cases stand in `Cases.antt`; `proofs/Theorems.antt` has those that a false definition
--- of the refusals, of a machine or of the numbering would break.
+-- What is proved of document 01's definitions. The starred cases stand in `Cases.antt`; `proofs/Theorems.antt` has the return
+-- trip, the ranges and the numbering of bits.
 use Rattle.std.specs.Prelude.{◌≡◌, Bool, true, List, ◌↔◌, ℕ, ◌*◌, ◌/◌, ◌%◌, ◌^◌, ◌≤◌, ◌<◌, length, get_or}
 use Rattle.std.proofs.Common.{subst, mod-lt, lt_of_lt_of_le, arith}
 use Rattle.theory.specs.Def.{pair, Linear, Equidistributed}

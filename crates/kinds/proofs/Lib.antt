@@ -1,4 +1,4 @@
--- Theorems that a false definition of an output, or of the twist, would break.
+-- Theorems: each output bit is a sum of bits of the start state, and the rows of kinds 3 and 4.
 pub mod Outputs
 pub mod Single
 pub mod KindFour

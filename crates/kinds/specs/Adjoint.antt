@@ -1,4 +1,4 @@
--- The proofs for Rows.antt: each part of a move and of an output has its transpose, and their composition is that of the whole.
+-- The proofs for Rows.antt and `proofs/KindFour.antt`: each part of a move and of an output has its transpose, and their composition is that of the whole.
 use Rattle.std.specs.Prelude.{◌≡◌, Bool, true, false, ◌&&◌, cond, ltb}
 use Rattle.std.proofs.Math.Path.{refl, sym, ap, ap₂}
 use Rattle.std.proofs.Common.{◌∙◌, lt-ltb, le-ltb, eq-eqb, ne_eqb}

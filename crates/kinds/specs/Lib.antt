@@ -1,4 +1,4 @@
--- The four kinds of generator. Read Generator, then Theorems; Transpose, then Rows; the rest are the proofs.
+-- The four kinds of generator. Read Generator, then Theorems; Transpose, then Rows; then proofs/. The rest are the proofs.
 pub mod Generator
 pub mod Examples
 pub mod Theorems

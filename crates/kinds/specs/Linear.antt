@@ -1,4 +1,4 @@
--- Each move and each output is linear: an algebra of linear maps, and a line for each definition.
+-- Each move and each output is linear: an algebra of linear maps, and a line for each definition. (`proofs/Outputs.antt`: so are the bits of outputs.)
 use Rattle.std.specs.Prelude.{◌≡◌, refl, Bool, true, false, ◌&&◌, cond, ℕ, zero, suc, ◌+◌, ◌-◌, ◌*◌, ltb}
 use Rattle.std.proofs.Common.{ap, ap₂, ◌∙◌}
 use Rattle.std.proofs.Math.Path.{fun_ext}

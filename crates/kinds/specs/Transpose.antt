@@ -1,4 +1,4 @@
--- Moves and outputs transposed. Definitions only; what is proved of them stands in Rows.antt.
+-- Moves and outputs transposed. Definitions only; what is proved of them stands in Rows.antt and `proofs/KindFour.antt`.
 -- A row ρ stands for the sum of the bits of a state that it names; `back ρ` stands for that sum after a move, and `first j` for bit j of the output.
 use Rattle.std.specs.Prelude.{◌≡◌, false, ◌&&◌, cond, ℕ, suc, ◌+◌, ◌-◌, ◌*◌, ◌<◌, ltb, eqb}
 use Rattle.theory.specs.Def.{xorsum, unit, pair}

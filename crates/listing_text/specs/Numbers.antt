@@ -21,8 +21,8 @@ AllSmall (n ∷ ns) = (n < most_number) × AllSmall ns
 -- the numbers of `report_text`, line by line
 pub record SmallNumbers (M : Machine) : Type 0 where
   pub head : AllSmall (M.size ∷ M.width ∷ [])
-  pub dimensions : (t : ℕ) → t ≤ M.size → AllSmall (t ∷ most_resolution M t ∷ resolution M t ∷ resolution_gap M t ∷ [])
-  pub resolutions : (l : ℕ) → l ≤ M.width → AllSmall (l ∷ most_dimension M l ∷ dimension M l ∷ dimension_gap M l ∷ [])
+  pub by_dimension : (t : ℕ) → t ≤ M.size → AllSmall (t ∷ most_resolution M t ∷ resolution M t ∷ resolution_gap M t ∷ [])
+  pub by_resolution : (l : ℕ) → l ≤ M.width → AllSmall (l ∷ most_dimension M l ∷ dimension M l ∷ dimension_gap M l ∷ [])
   pub sums : AllSmall (resolution_sum M ∷ dimension_sum M ∷ [])
 
 -- ---- how large they can be
@@ -55,8 +55,8 @@ module _ (M : Machine) where
       let most : M.size * M.width < most_number = omega (arith, mul-le-mul a b) in
       record {
         head = omega arith;
-        dimensions = λ t h. omega (arith, resolution_most t);
-        resolutions = λ l h. omega (arith, dimension_most l, div-le_self M.size l);
+        by_dimension = λ t h. omega (arith, resolution_most t);
+        by_resolution = λ l h. omega (arith, dimension_most l, div-le_self M.size l);
         sums = omega (arith, resolution_sum_most, dimension_sum_most);
       }
 

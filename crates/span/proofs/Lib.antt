@@ -1,2 +1,2 @@
--- What a false definition of a first set would break.
+-- The first dependent set of rows is the first of the output bits.
 pub mod FirstSet

@@ -1,3 +1,3 @@
--- The theorems that a false definition of the cells would break.
+-- The counting theorem, in Theorems, and the counts that it rests on.
 pub mod Counting
 pub mod Theorems

@@ -2,27 +2,11 @@ use mathlib.Core.Path.{refl}
 use Prim.Native.Nat.{◌+◌, ◌*◌, ◌≤◌, ◌-◌}
 use native.Mathlib.Omega.{arith}
 use lib.ListN.{get_or}
-use borrow.Author.Rules.{rules}
 use Rattle.elimination.proofs.Reduce.{reduced_start, source_end, source_apart, words_zero, leading_rises, reduced_more}
 use Rattle.elimination.proofs.reduce_row.Goals as goal
 
-pub leading_bit-b-requires : goal.leading_bit-b-requires
-leading_bit-b-requires c = (search rules, search rules, search rules, λ i l. absurd (omega arith))
-
 pub loop-b-init : goal.loop-b-init
 loop-b-init c = reduced_start _ _ _ _ _ _ c.leading_bit-b.ensures
-
-pub overflow_mul-s : goal.overflow_mul-s
-overflow_mul-s c =
-    let ends : (get_or c.args.slots.now c.loop-b.b 0 - 1) * c.args.stride
-    + c.args.width ≤ c.args.r * c.args.stride = source_end _ _ _ _ _ c.args.slots.now c.requires.in_room.0 c.requires.in_room.1 c.requires.slotted _ _ _ c.loop-b.invariant c.loop-b-test.true refl c.if-s-eq0.false in
-    omega (arith, ends)
-
-pub overflow_add-s : goal.overflow_add-s
-overflow_add-s c =
-    let ends : (get_or c.args.slots.now c.loop-b.b 0 - 1) * c.args.stride
-    + c.args.width ≤ c.args.r * c.args.stride = source_end _ _ _ _ _ c.args.slots.now c.requires.in_room.0 c.requires.in_room.1 c.requires.slotted _ _ _ c.loop-b.invariant c.loop-b-test.true refl c.if-s-eq0.false in
-    omega (arith, ends)
 
 pub add_words-requires : goal.add_words-requires
 add_words-requires c =

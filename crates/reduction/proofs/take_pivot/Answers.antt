@@ -1,16 +1,8 @@
 -- `reduction::take_pivot` meets its contract.
 use native.Mathlib.Omega.{arith}
-use Rattle.elimination.proofs.Words.{row_end}
 use Rattle.reduction.proofs.Columns.{pivoted, brought_zero}
 use mathlib.Core.Path.{◌∙◌}
 use Rattle.reduction.proofs.take_pivot.Goals as goal
-
-pub bring_row-requires : goal.bring_row-requires
-bring_row-requires c =
-    let q = c.requires.in_room in
-    let a = row_end c.args.r c.args.n c.args.stride c.args.width q.0 q.2 in
-    let b = row_end c.args.p c.args.n c.args.stride c.args.width q.1 q.2 in
-    record { in_room = (q.2, omega (arith, q.3), omega (arith, q.3), omega (arith, q.4)); zero = c.requires.zero.1 }
 
 pub clear_column-requires : goal.clear_column-requires
 clear_column-requires c =

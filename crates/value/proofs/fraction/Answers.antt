@@ -1,10 +1,9 @@
 use mathlib.Core.Path.{subst}
 use mathlib.Core.Bool.{false}
 use Prim.Native.Nat.{◌^◌, ℕ, ◌≤◌}
-use lib.Dec.{le→leb}
 use lib.Pow.{pow_mono, pow_pos}
 use lib.IntN.{pos}
-use lib.Ieee.{in_float, of_int, binary64}
+use lib.Ieee.{of_int, binary64}
 use lib.Ieee.Exact.{HasValue}
 use lib.Ieee.Fits.{div-fits}
 use lib.Ieee.Bits.{of_bits-fits}
@@ -14,14 +13,6 @@ use Rattle.value.specs.Unique.{unique}
 use Rattle.value.specs.Theorems.{value_exact}
 use native.Mathlib.Omega.{arith}
 use Rattle.value.proofs.fraction.Goals as goal
-
-pub int_to_float-result : goal.int_to_float-result
-unfolding in_float
-int_to_float-result c = le→leb c.args.y (2 ^ 53) (omega arith)
-
-pub int_to_float-result-2 : goal.int_to_float-result-2
-unfolding in_float
-int_to_float-result-2 c = let q : c.power-p.result ≤ 2 ^ 53 = omega (arith, c.power-p.ensures, pow_mono {i = c.args.l} {j = 53} (omega arith)) in le→leb _ _ q
 
 pub returns : goal.returns
 returns c = let q : c.power-p.result ≤ 2 ^ 53 = omega (arith, c.power-p.ensures, pow_mono {i = c.args.l} {j = 53} (omega arith)) in
