@@ -1,7 +1,11 @@
 use native.Mathlib.Omega.{arith}
-use Rattle.reduction.proofs.Columns.{column_skip, column_add}
+use Rattle.reduction.proofs.Columns.{column_none, column_skip, column_add}
+use borrow.Author.Rules.{rules}
 use Rattle.reduction.proofs.clear_column.Goals as goal
 use Rattle.reduction.proofs.clear_column.Goals.{then-q-r, else-q-r}
+
+pub loop-q-init : goal.loop-q-init
+loop-q-init c = (search rules, column_none _ _ _ _ _ _)
 
 pub loop-q-preserved : goal.loop-q-preserved
 loop-q-preserved c =
