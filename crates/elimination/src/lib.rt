@@ -8,6 +8,10 @@ ghost use Rattle.span.specs.Def.{Zero, Leading, Slotted};
 ghost use Rattle.elimination.specs.Words.{Apart, Cleared, Added, flipped};
 ghost use Rattle.elimination.specs.Rows.{rows_of, slot_of, Reduced, Taken, Outcome, Tagging};
 
+mod layout;
+
+pub use layout::Layout;
+
 // Bit i of the row at word `at`.
 pub fn bit_at(buf: &[u64], at: usize, i: usize) -> bool
     requires { at + i / 64 < length buf.now }
@@ -22,7 +26,7 @@ pub fn flip_bit(buf: &mut [u64], at: usize, i: usize)
     ensures { buf.new ≡ flipped buf.old at i }
 {
     let w = at + i / 64;
-    buf[w] = buf[w] ^ (1 << (i % 64));
+    buf[w] ^= 1 << (i % 64);
 }
 
 // Zeroes the n words at `at`.
@@ -30,9 +34,7 @@ pub fn clear_words(buf: &mut [u64], at: usize, n: usize)
     requires { at + n ≤ length buf.old }
     ensures { Cleared buf.old at n buf.new }
 {
-    for k in 0..n {
-        buf[at + k] = 0;
-    }
+    buf[at..at + n].fill(0);
 }
 
 // Zeroes the first n slots: no bit leads a row.
@@ -40,9 +42,7 @@ pub fn clear_slots(slots: &mut [usize], n: usize)
     requires { n ≤ length slots.old }
     ensures { Cleared slots.old 0 n slots.new }
 {
-    for k in 0..n {
-        slots[k] = 0;
-    }
+    slots[..n].fill(0);
 }
 
 // Adds the n words at `src` into the n words at `dst`.
@@ -51,7 +51,7 @@ pub fn add_words(buf: &mut [u64], dst: usize, src: usize, n: usize)
     ensures { Added buf.old dst src n buf.new }
 {
     for k in 0..n {
-        buf[dst + k] = buf[dst + k] ^ buf[src + k];
+        buf[dst + k] ^= buf[src + k];
     }
 }
 
@@ -72,89 +72,67 @@ pub fn leading_bit(buf: &[u64], at: usize, from: usize, lead: usize) -> usize
 
 // Adds to row r the earlier rows that its leading bits in turn belong to, until its leading bit is
 // nobody's; gives that bit, or 64 * lead if no bit of its first `lead` words is left.
-pub fn reduce_row(
-    buf: &mut [u64],
-    r: usize,
-    stride: usize,
-    width: usize,
-    lead: usize,
-    slots: &[usize],
-) -> usize
-    requires in_room { (lead ≤ width) × (width ≤ stride) × (r * stride + width ≤ length buf.old) × (64 * lead ≤ length slots.now) }
-    requires slotted { Slotted (64 * lead) r (rows_of buf.old stride) (slot_of slots.now) }
-    ensures { Reduced buf.old r stride width lead buf.new result × (result < 64 * lead → slot_of slots.now result ≡ 0) }
+pub fn reduce_row(buf: &mut [u64], r: usize, layout: Layout, slots: &[usize]) -> usize
+    requires in_room { (r * layout.stride + layout.width ≤ length buf.old) × (64 * layout.lead ≤ length slots.now) }
+    requires slotted { Slotted (64 * layout.lead) r (rows_of buf.old layout.stride) (slot_of slots.now) }
+    ensures { Reduced buf.old r layout.stride layout.width layout.lead buf.new result × (result < 64 * layout.lead → slot_of slots.now result ≡ 0) }
 {
-    let at = r * stride;
-    let end = 64 * lead;
-    let mut b = leading_bit(buf, at, 0, lead);
+    let at = r * layout.stride;
+    let end = 64 * layout.lead;
+    let mut b = leading_bit(buf, at, 0, layout.lead);
     while b < end {
         let s = slots[b];
         if s == 0 {
             return b;
         }
         let from = b / 64;
-        add_words(buf, at + from, (s - 1) * stride + from, width - from);
-        b = leading_bit(buf, at, from, lead);
+        add_words(buf, at + from, (s - 1) * layout.stride + from, layout.width - from);
+        b = leading_bit(buf, at, from, layout.lead);
     }
     b
 }
 
 // Reduces row r by the rows before it and enters its leading bit; false if it is a sum of them.
-pub fn take_row(
-    buf: &mut [u64],
-    r: usize,
-    stride: usize,
-    width: usize,
-    lead: usize,
-    slots: &mut [usize],
-) -> bool
-    requires in_room { (lead ≤ width) × (width ≤ stride) × (r * stride + width ≤ length buf.old) × (64 * lead ≤ length slots.old) × (r + 1 < 2 ^ 64) }
-    requires slotted { Slotted (64 * lead) r (rows_of buf.old stride) (slot_of slots.old) }
-    ensures { Taken buf.old r stride width lead slots.old buf.new slots.new result }
+pub fn take_row(buf: &mut [u64], r: usize, layout: Layout, slots: &mut [usize]) -> bool
+    requires in_room { (r * layout.stride + layout.width ≤ length buf.old) × (64 * layout.lead ≤ length slots.old) × (r + 1 < 2 ^ 64) }
+    requires slotted { Slotted (64 * layout.lead) r (rows_of buf.old layout.stride) (slot_of slots.old) }
+    ensures { Taken buf.old r layout.stride layout.width layout.lead slots.old buf.new slots.new result }
 {
-    let b = reduce_row(buf, r, stride, width, lead, slots);
-    if b < 64 * lead {
+    let b = reduce_row(buf, r, layout, slots);
+    if b < 64 * layout.lead {
         slots[b] = r + 1;
         return true;
     }
     false
 }
 
-// What may be missing.
-#[derive(Clone, Copy)]
-pub enum Found {
-    At(usize),
-    Nothing,
-}
-
-// Takes the rows in order, up to the first that is a sum of those before it.
+// Takes the rows in order, up to the first that is a sum of those before it; gives its number.
 pub fn eliminate(
     buf: &mut [u64],
     rows: usize,
-    stride: usize,
-    width: usize,
-    lead: usize,
+    layout: Layout,
     slots: &mut [usize],
-) -> Found
-    requires { (lead ≤ width) × (width ≤ stride) × (rows * stride ≤ length buf.old) × (64 * lead ≤ length slots.old) }
-    ensures { Outcome buf.old rows stride width lead slots.old buf.new slots.new result }
+) -> Option<usize>
+    requires { (rows * layout.stride ≤ length buf.old) × (64 * layout.lead ≤ length slots.old) }
+    ensures { Outcome buf.old rows layout.stride layout.width layout.lead slots.old buf.new slots.new result }
 {
-    clear_slots(slots, 64 * lead);
+    clear_slots(slots, 64 * layout.lead);
     for r in 0..rows {
-        if !take_row(buf, r, stride, width, lead, slots) {
-            return Found::At(r);
+        if !take_row(buf, r, layout, slots) {
+            return Some(r);
         }
     }
-    Found::Nothing
+    None
 }
 
 // Writes into the words from `lead` to `width` of each row the set of the row alone.
-pub fn set_tags(buf: &mut [u64], rows: usize, stride: usize, width: usize, lead: usize)
-    requires { (lead ≤ width) × (width ≤ stride) × (rows * stride ≤ length buf.old) × (64 * lead + rows ≤ 64 * width) × (64 * lead + rows < 2 ^ 64) }
-    ensures { Tagging buf.old rows stride width lead buf.new }
+pub fn set_tags(buf: &mut [u64], rows: usize, layout: Layout)
+    requires { (rows * layout.stride ≤ length buf.old) × (64 * layout.lead + rows ≤ 64 * layout.width) × (64 * layout.lead + rows < 2 ^ 64) }
+    ensures { Tagging buf.old rows layout.stride layout.width layout.lead buf.new }
 {
     for p in 0..rows {
-        clear_words(buf, p * stride + lead, width - lead);
-        flip_bit(buf, p * stride, 64 * lead + p);
+        let at = p * layout.stride;
+        clear_words(buf, at + layout.lead, layout.width - layout.lead);
+        flip_bit(buf, at, 64 * layout.lead + p);
     }
 }

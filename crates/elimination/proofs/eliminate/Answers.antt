@@ -13,7 +13,7 @@ returns-then-not-take_row c =
     let k = c.clear_slots.ensures in
     record {
       place = c.loop-r-test.true;
-      state = eliminating_last _ _ _ _ _ _ _ c.requires.0 c.requires.1 l.invariant.2 _ _ _ c.take_row.ensures c.if-not-take_row.true;
+      state = eliminating_last _ _ _ _ _ _ _ c.args.layout.lead_within c.args.layout.width_within l.invariant.2 _ _ _ c.take_row.ensures c.if-not-take_row.true;
       zero = (c.take_row.ensures.no c.if-not-take_row.true).0;
       slots_kept = slots_again (slots_cleared _ _ _ k) (slots_again l.invariant.1 c.take_row.ensures.slots_kept);
     }
@@ -23,5 +23,5 @@ loop-r-preserved c =
     let l = c.loop-r in (
       omega arith,
       slots_again l.invariant.1 c.take_row.ensures.slots_kept,
-      eliminating_more _ _ _ _ _ _ _ c.requires.0 c.requires.1 l.invariant.2 _ _ _ c.take_row.ensures c.if-not-take_row.false,
+      eliminating_more _ _ _ _ _ _ _ c.args.layout.lead_within c.args.layout.width_within l.invariant.2 _ _ _ c.take_row.ensures c.if-not-take_row.false,
     )

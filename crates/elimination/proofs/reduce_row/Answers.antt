@@ -10,11 +10,11 @@ loop-b-init c = reduced_start _ _ _ _ _ _ c.leading_bit-b.ensures
 
 pub add_words-requires : goal.add_words-requires
 add_words-requires c =
-    let ends : (get_or c.args.slots.now c.loop-b.b 0 - 1) * c.args.stride
-    + c.args.width ≤ c.args.r * c.args.stride = source_end _ _ _ _ _ c.args.slots.now c.requires.in_room.0 c.requires.in_room.1 c.requires.slotted _ _ _ c.loop-b.invariant c.loop-b-test.true refl c.if-s-eq0.false in
+    let ends : (get_or c.args.slots.now c.loop-b.b 0 - 1) * c.args.layout.stride
+    + c.args.layout.width ≤ c.args.r * c.args.layout.stride = source_end _ _ _ _ _ c.args.slots.now c.args.layout.lead_within c.args.layout.width_within c.requires.slotted _ _ _ c.loop-b.invariant c.loop-b-test.true refl c.if-s-eq0.false in
     let n = ends in
     let l = c.loop-b.invariant.kept.long in
-    (omega arith, omega arith, source_apart _ _ _ _ _ c.args.slots.now c.requires.in_room.0 c.requires.in_room.1 c.requires.slotted _ _ _ c.loop-b.invariant c.loop-b-test.true refl c.if-s-eq0.false)
+    (omega arith, omega arith, source_apart _ _ _ _ _ c.args.slots.now c.args.layout.lead_within c.args.layout.width_within c.requires.slotted _ _ _ c.loop-b.invariant c.loop-b-test.true refl c.if-s-eq0.false)
 
 pub leading_bit-b-requires-in-loop-b : goal.leading_bit-b-requires-in-loop-b
 leading_bit-b-requires-in-loop-b c =
@@ -23,14 +23,14 @@ leading_bit-b-requires-in-loop-b c =
       omega arith,
       omega (arith, l, m),
       omega arith,
-      words_zero _ _ _ _ _ c.args.slots.now c.requires.in_room.0 c.requires.in_room.1 c.requires.slotted _ _ _ c.loop-b.invariant c.loop-b-test.true refl c.if-s-eq0.false _ c.add_words.ensures,
+      words_zero _ _ _ _ _ c.args.slots.now c.args.layout.lead_within c.args.layout.width_within c.requires.slotted _ _ _ c.loop-b.invariant c.loop-b-test.true refl c.if-s-eq0.false _ c.add_words.ensures,
     )
 
 pub loop-b-smaller : goal.loop-b-smaller
 loop-b-smaller c =
-    let g = leading_rises _ _ _ _ _ c.args.slots.now c.requires.in_room.0 c.requires.in_room.1 c.requires.slotted _ _ _ c.loop-b.invariant c.loop-b-test.true refl c.if-s-eq0.false _ c.add_words.ensures _ c.leading_bit-b-in-loop-b.ensures in
+    let g = leading_rises _ _ _ _ _ c.args.slots.now c.args.layout.lead_within c.args.layout.width_within c.requires.slotted _ _ _ c.loop-b.invariant c.loop-b-test.true refl c.if-s-eq0.false _ c.add_words.ensures _ c.leading_bit-b-in-loop-b.ensures in
     omega arith
 
 pub loop-b-preserved : goal.loop-b-preserved
 loop-b-preserved c =
-    reduced_more _ _ _ _ _ c.args.slots.now c.requires.in_room.0 c.requires.in_room.1 c.requires.slotted _ _ _ c.loop-b.invariant c.loop-b-test.true refl c.if-s-eq0.false _ c.add_words.ensures _ c.leading_bit-b-in-loop-b.ensures
+    reduced_more _ _ _ _ _ c.args.slots.now c.args.layout.lead_within c.args.layout.width_within c.requires.slotted _ _ _ c.loop-b.invariant c.loop-b-test.true refl c.if-s-eq0.false _ c.add_words.ensures _ c.leading_bit-b-in-loop-b.ensures

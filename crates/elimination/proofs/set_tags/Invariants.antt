@@ -4,7 +4,7 @@ use Rattle.elimination.specs.Rows.{Tagging}
 use Rattle.elimination.proofs.set_tags.Given as goal
 
 abbrev pub invariant-loop-p : goal.invariant-loop-p
-invariant-loop-p l = (l.p ≤ l.rows) × Tagging l.initial.buf l.p l.stride l.width l.lead l.buf
+invariant-loop-p l = (l.p ≤ l.rows) × Tagging l.initial.buf l.p l.layout.stride l.layout.width l.layout.lead l.buf
 
 abbrev pub decreases-loop-p : goal.decreases-loop-p
 decreases-loop-p l = l.rows - l.p
