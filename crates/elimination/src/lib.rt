@@ -5,7 +5,7 @@
 ghost use Rattle.std.specs.Prelude.{◌≡◌, ℕ, ◌+◌, ◌*◌, ◌/◌, ◌<◌, ◌≤◌, ◌^◌, length, get_or};
 ghost use Rattle.digits.specs.Def.{bits_from};
 ghost use Rattle.span.specs.Def.{Zero, Leading, Slotted};
-ghost use Rattle.elimination.specs.Words.{Apart, Cleared, Added, flipped};
+ghost use Rattle.elimination.specs.Words.{Apart, Cleared, Added, FirstWord, flipped};
 ghost use Rattle.elimination.specs.Rows.{rows_of, slot_of, Reduced, Taken, Outcome, Tagging};
 
 mod layout;
@@ -37,14 +37,6 @@ pub fn clear_words(buf: &mut [u64], at: usize, n: usize)
     buf[at..at + n].fill(0);
 }
 
-// Zeroes the first n slots: no bit leads a row.
-pub fn clear_slots(slots: &mut [usize], n: usize)
-    requires { n ≤ length slots.old }
-    ensures { Cleared slots.old 0 n slots.new }
-{
-    slots[..n].fill(0);
-}
-
 // Adds the n words at `src` into the n words at `dst`.
 pub fn add_words(buf: &mut [u64], dst: usize, src: usize, n: usize)
     requires { (dst + n ≤ length buf.old) × (src + n ≤ length buf.old) × Apart dst src n }
@@ -55,19 +47,24 @@ pub fn add_words(buf: &mut [u64], dst: usize, src: usize, n: usize)
     }
 }
 
+// The first word from `from` on, of the `lead` words at `at`, that is not zero.
+fn first_word(buf: &[u64], at: usize, from: usize, lead: usize) -> Option<usize>
+    requires { at + lead ≤ length buf.now }
+    ensures { FirstWord buf.now at from lead result }
+{
+    (from..lead).find(|k| buf[at + *k] != 0)
+}
+
 // The leading bit of the row at word `at`: the lowest that is set in its first `lead` words, of
 // which those before `from` are known to be zero; 64 * lead if none is set.
 pub fn leading_bit(buf: &[u64], at: usize, from: usize, lead: usize) -> usize
     requires { (from ≤ lead) × (at + lead ≤ length buf.now) × (64 * lead < 2 ^ 64) × Zero (64 * from) (bits_from buf.now at) }
     ensures { Leading (64 * lead) (bits_from buf.now at) result }
 {
-    for k in from..lead {
-        let w = buf[at + k];
-        if w != 0 {
-            return 64 * k + (u64::trailing_zeros(w) as usize);
-        }
+    match first_word(buf, at, from, lead) {
+        Some(k) => 64 * k + buf[at + k].trailing_zeros() as usize,
+        None => 64 * lead,
     }
-    64 * lead
 }
 
 // Adds to row r the earlier rows that its leading bits in turn belong to, until its leading bit is
@@ -116,7 +113,7 @@ pub fn eliminate(
     requires { (rows * layout.stride ≤ length buf.old) × (64 * layout.lead ≤ length slots.old) }
     ensures { Outcome buf.old rows layout.stride layout.width layout.lead slots.old buf.new slots.new result }
 {
-    clear_slots(slots, 64 * layout.lead);
+    slots[..64 * layout.lead].fill(0);
     for r in 0..rows {
         if !take_row(buf, r, layout, slots) {
             return Some(r);
