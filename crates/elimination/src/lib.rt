@@ -42,6 +42,7 @@ pub fn add_words(buf: &mut [u64], dst: usize, src: usize, n: usize)
     requires { (dst + n ≤ length buf.old) × (src + n ≤ length buf.old) × Apart dst src n }
     ensures { Added buf.old dst src n buf.new }
 {
+    // An index loop: both ranges lie in one buffer, either of them first, and no iterator lends it twice.
     for k in 0..n {
         buf[dst + k] ^= buf[src + k];
     }
@@ -56,7 +57,8 @@ fn first_word(buf: &[u64], at: usize, from: usize, lead: usize) -> Option<usize>
 }
 
 // The leading bit of the row at word `at`: the lowest that is set in its first `lead` words, of
-// which those before `from` are known to be zero; 64 * lead if none is set.
+// which those before `from` are known to be zero. It is the number of zero bits before the first one,
+// so 64 * lead if none is set, as `trailing_zeros` of a word is 64.
 pub fn leading_bit(buf: &[u64], at: usize, from: usize, lead: usize) -> usize
     requires { (from ≤ lead) × (at + lead ≤ length buf.now) × (64 * lead < 2 ^ 64) × Zero (64 * from) (bits_from buf.now at) }
     ensures { Leading (64 * lead) (bits_from buf.now at) result }
@@ -83,7 +85,12 @@ pub fn reduce_row(buf: &mut [u64], r: usize, layout: Layout, slots: &[usize]) ->
             return b;
         }
         let from = b / 64;
-        add_words(buf, at + from, (s - 1) * layout.stride + from, layout.width - from);
+        add_words(
+            buf,
+            at + from,
+            (s - 1) * layout.stride + from,
+            layout.width - from,
+        );
         b = leading_bit(buf, at, from, layout.lead);
     }
     b
@@ -104,12 +111,7 @@ pub fn take_row(buf: &mut [u64], r: usize, layout: Layout, slots: &mut [usize]) 
 }
 
 // Takes the rows in order, up to the first that is a sum of those before it; gives its number.
-pub fn eliminate(
-    buf: &mut [u64],
-    rows: usize,
-    layout: Layout,
-    slots: &mut [usize],
-) -> Option<usize>
+pub fn eliminate(buf: &mut [u64], rows: usize, layout: Layout, slots: &mut [usize]) -> Option<usize>
     requires { (rows * layout.stride ≤ length buf.old) × (64 * layout.lead ≤ length slots.old) }
     ensures { Outcome buf.old rows layout.stride layout.width layout.lead slots.old buf.new slots.new result }
 {

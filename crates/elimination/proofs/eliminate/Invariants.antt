@@ -1,5 +1,5 @@
 -- `elimination::eliminate` meets its contract. The loop's invariant: the rows below r have leading bits of their own.
-use Rattle.std.proofs.Common.{◌*◌, ◌≤◌}
+use Rattle.std.proofs.Common.{◌*◌}
 use Rattle.elimination.specs.Rows.{SlotsKept, Eliminating}
 use Rattle.elimination.proofs.eliminate.Given as goal
 
