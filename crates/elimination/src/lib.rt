@@ -42,7 +42,7 @@ pub fn add_words(buf: &mut [u64], dst: usize, src: usize, n: usize)
     requires { (dst + n ≤ length buf.old) × (src + n ≤ length buf.old) × Apart dst src n }
     ensures { Added buf.old dst src n buf.new }
 {
-    // An index loop: both ranges lie in one buffer, either of them first, and no iterator lends it twice.
+    // An index loop: both ranges lie in one buffer, which no iterator lends twice.
     for k in 0..n {
         buf[dst + k] ^= buf[src + k];
     }
@@ -57,13 +57,14 @@ fn first_word(buf: &[u64], at: usize, from: usize, lead: usize) -> Option<usize>
 }
 
 // The leading bit of the row at word `at`: the lowest that is set in its first `lead` words, of
-// which those before `from` are known to be zero. It is the number of zero bits before the first one,
-// so 64 * lead if none is set, as `trailing_zeros` of a word is 64.
+// which those before `from` are known to be zero; 64 * lead if none is set, as `trailing_zeros` of
+// a word is 64.
 pub fn leading_bit(buf: &[u64], at: usize, from: usize, lead: usize) -> usize
     requires { (from ≤ lead) × (at + lead ≤ length buf.now) × (64 * lead < 2 ^ 64) × Zero (64 * from) (bits_from buf.now at) }
     ensures { Leading (64 * lead) (bits_from buf.now at) result }
 {
     match first_word(buf, at, from, lead) {
+        // `as`: a `usize` has no `From<u32>`, and the cast is proved to lose nothing.
         Some(k) => 64 * k + buf[at + k].trailing_zeros() as usize,
         None => 64 * lead,
     }
@@ -80,15 +81,15 @@ pub fn reduce_row(buf: &mut [u64], r: usize, layout: Layout, slots: &[usize]) ->
     let end = 64 * layout.lead;
     let mut b = leading_bit(buf, at, 0, layout.lead);
     while b < end {
-        let s = slots[b];
-        if s == 0 {
+        // A slot is 0 or one more than its row: C lends the slots, and has no Option.
+        let Some(s) = slots[b].checked_sub(1) else {
             return b;
-        }
+        };
         let from = b / 64;
         add_words(
             buf,
             at + from,
-            (s - 1) * layout.stride + from,
+            s * layout.stride + from,
             layout.width - from,
         );
         b = leading_bit(buf, at, from, layout.lead);

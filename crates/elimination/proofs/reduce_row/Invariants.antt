@@ -1,5 +1,5 @@
 -- `elimination::reduce_row` meets its contract. The loop's invariant: some earlier rows are added, and b is the leading bit; it rises with each turn.
-use Prim.Native.Nat.{◌*◌, ◌-◌}
+use Rattle.std.proofs.Common.{◌*◌, ◌-◌}
 use Rattle.elimination.specs.Rows.{Reduced}
 use Rattle.elimination.proofs.reduce_row.Given as goal
 
