@@ -2,7 +2,7 @@
 use mathlib.Core.Path.{◌≡◌, refl, sym, ◌∙◌}
 use mathlib.Core.Logic.{by_cases}
 use mathlib.Core.List.{List}
-use mathlib.Core.Bool.{Bool, true, false, not, true≢false, false≢true}
+use mathlib.Core.Bool.{Bool, true, false, true≢false, false≢true}
 use Prim.Native.Nat.{ℕ, ◌+◌, ◌*◌, ◌≤◌, ◌<◌}
 use native.Mathlib.Nat.{add-mul, zero-add}
 use native.Mathlib.Numerals.{add-one}
@@ -132,13 +132,3 @@ pub finish : (ws : List ℕ) (rows stride width lead : ℕ) (slots cleared out s
     → Eliminating ws rows rows stride width lead out slots' → Finished ws rows stride width lead slots out slots'
 finish ws rows stride width lead slots cleared out slots' k y x =
     record { state = x; slots_kept = slots_again (slots_cleared slots (64 * lead) cleared k) y }
-
--- ---- the test `!take_row(..)`
-
-pub not-true : (t : Bool) → not t ≡ true → t ≡ false
-not-true true e = absurd (false≢true e)
-not-true false e = refl
-
-pub not-false : (t : Bool) → not t ≡ false → t ≡ true
-not-false true e = refl
-not-false false e = absurd (true≢false e)
