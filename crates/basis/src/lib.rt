@@ -9,7 +9,7 @@ ghost use Rattle.running.specs.Prepared.{Ready, machine_of};
 ghost use Rattle.basis.specs.Promises.{Based, BasisRows, BasisPart};
 
 use document::{Dimension, Fields, ROW_WORDS, Resolution, WORK_WORDS};
-use filling::STRIDE;
+use filling::LAYOUT;
 use running::Prepared;
 
 // How many words of the lent buffer are the basis; a refusal is a number above 0, with none.
@@ -51,8 +51,8 @@ fn reduced_rows(work: &mut [u64], p: Prepared, l: usize, n: usize) -> usize
     ensures { Based (machine_of p) l n work.old result work.new }
 {
     filling::fill(work, p, l, n);
-    let rank = reduction::reduce(work, n, STRIDE, ROW_WORDS, p.k);
-    reduction::pack(work, rank, STRIDE, ROW_WORDS, WORK_WORDS);
+    let rank = reduction::reduce(work, n, LAYOUT, p.k);
+    reduction::pack(work, rank, LAYOUT, WORK_WORDS);
     rank
 }
 

@@ -2,11 +2,10 @@
 use mathlib.Core.Path.{◌≡◌, refl, sym, ap, ◌∙◌}
 use mathlib.Core.List.{List}
 use mathlib.Core.Logic.{by_cases}
-use native.Mathlib.Decide.{dec_lt, ℕ_discrete}
+use native.Mathlib.Decide.{dec_lt}
 use Prim.Native.Nat.{ℕ, ◌+◌, ◌*◌, ◌/◌, ◌%◌, ◌≤◌, ◌<◌}
 use native.Mathlib.Omega.{arith}
-use lib.ListN.{length, get_or, set, length-set, get_or-eq_default}
-use lib.Seq.{get_or-set_same, get_or-set_other}
+use lib.ListN.{length, get_or, get_or-eq_default}
 use borrow.Author.Tests.{lt-ltb, le-ltb}
 use Rattle.theory.specs.Def.{unit}
 use Rattle.theory.specs.Sums.{pair-unit}
@@ -19,20 +18,6 @@ use Rattle.rows.specs.Theorems.{RowOf, row_same}
 use Rattle.elimination.specs.Words.{Written}
 use Rattle.elimination.proofs.RowBits.{bits_same}
 use Rattle.filling.specs.Rows.{stride, state_row, Stands, Filled}
-
--- ---- words got
-
-pub record Got (ws : List ℕ) (at n : ℕ) (r : List ℕ) : Type 0 where
-  pub long : length r ≡ row_words
-  pub words : (j : ℕ) → j < n → get_or r j 0 ≡ get_or ws (at + j) 0
-
-pub got_more : (ws r : List ℕ) (at i : ℕ) → i < row_words → Got ws at i r → Got ws at (i + 1) (set r i (get_or ws (at + i) 0))
-got_more ws r at i l x = record {
-  long = simp length-set x.long;
-  words = λ j k. by_cases (ℕ_discrete j i)
-      (λ e. rw e (get_or-set_same r i _ 0 (omega (arith, x.long))))
-      (λ e. get_or-set_other r i j _ 0 e ∙ x.words j (omega arith));
-}
 
 -- ---- rows
 

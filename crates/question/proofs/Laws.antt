@@ -34,13 +34,12 @@ use Rattle.span.specs.Theorems as Span
 use Rattle.elimination.specs.Words.{Cleared}
 use Rattle.elimination.specs.Rows.{rows_of, set_of, Tagging, Outcome}
 use Rattle.elimination.specs.Theorems.{finished_independent, stopped_independent, stopped_set, stopped_set_ends}
-use Rattle.elimination.specs.declared.Found.{Found}
-use Rattle.elimination.specs.declared.Found.TheVariants.{At, Nothing}
+use Rattle.std.specs.Prelude.{Option, Some, None, unwrap_or}
 use Rattle.elimination.proofs.RowBits.{bits_same}
 use Rattle.filling.specs.Rows.{stride, state_row, Filled}
 use Rattle.filling.specs.Theorems.{rows_cells, not_yes}
 use Rattle.question.specs.declared.Reply.{Reply}
-use Rattle.question.specs.Searches.{Enough, FirstOf, number_of, Searched, ReplyOf, Decided}
+use Rattle.question.specs.Searches.{Enough, FirstOf, Searched, ReplyOf, Decided}
 
 -- ---- where nothing refuses
 
@@ -80,8 +79,8 @@ module _ (M : Machine) (l n : ℕ) (few : n ≤ 64 * row_words) (ws filled tagge
       let e : i * stride + 0 ≡ i * stride = omega arith in
       sym (bits_same filled tagged (i * stride) b (y.before i (b / 64) h (omega arith)) ∙ rw e at ((x.rows i h).bits b f))
 
-  pub searched : (slots out slots' : List ℕ) (f : Found) → Outcome tagged n stride stride row_words slots out slots' f → Searched M l n ws (number_of n f) out
-  searched slots out slots' (At d) z = record {
+  pub searched : (slots out slots' : List ℕ) (f : Option ℕ) → Outcome tagged n stride stride row_words slots out slots' f → Searched M l n ws (unwrap_or f n) out
+  searched slots out slots' (Some d) z = record {
     most = omega (arith, z.place);
     rows = λ i h. (x.rows i h).is;
     found = λ _. record {
@@ -94,7 +93,7 @@ module _ (M : Machine) (l n : ℕ) (few : n ≤ 64 * row_words) (ws filled tagge
     long = z.state.long ∙ y.long ∙ x.long;
     behind = λ j h. z.state.behind j (omega (arith, z.place)) ∙ y.behind j h ∙ x.behind j h;
   }
-  searched slots out slots' Nothing z = record {
+  searched slots out slots' None z = record {
     most = omega arith;
     rows = λ i h. (x.rows i h).is;
     found = λ h. absurd (omega arith);

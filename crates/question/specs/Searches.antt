@@ -7,8 +7,6 @@ use Rattle.document.specs.Memory.{Front}
 use Rattle.rows.specs.Theorems.{RowOf}
 use Rattle.span.specs.Def.{DependentRows, IndependentRows}
 use Rattle.elimination.specs.Rows.{set_of}
-use Rattle.elimination.specs.declared.Found.{Found}
-use Rattle.elimination.specs.declared.Found.TheVariants.{At, Nothing}
 use Rattle.filling.specs.Rows.{stride, state_row}
 use Rattle.question.specs.declared.Reply.{Reply}
 
@@ -25,11 +23,6 @@ pub record FirstOf (M : Machine) (l n d : ℕ) (S : ℕ → Bool) : Type 0 where
   pub set : DependentRows (64 * row_words) (state_row M l) d S
   pub before : IndependentRows (64 * row_words) (state_row M l) d
   pub ends : (i : ℕ) → d < i → i < 64 * row_words → S i ≡ false
-
--- what was found, as a number: n for nothing
-abbrev pub number_of : ℕ → Found → ℕ
-number_of n (At d) = d
-number_of n Nothing = n
 
 -- the set that ends at d stands in the second half of row d; or d is n, and the n rows are independent
 pub record Searched (M : Machine) (l n : ℕ) (ws : List ℕ) (d : ℕ) (out : List ℕ) : Type 0 where

@@ -6,11 +6,11 @@ ghost use Rattle.document.specs.Limits.{row_words, most_bits, most_output, work_
 ghost use Rattle.document.specs.Refusals.{question_refusal};
 ghost use Rattle.running.specs.Prepared.{Ready, machine_of};
 ghost use Rattle.filling.specs.Rows.{stride};
-ghost use Rattle.question.specs.Searches.{number_of, Enough, Searched, ReplyOf, Decided};
+ghost use Rattle.question.specs.Searches.{Enough, Searched, ReplyOf, Decided};
 ghost use Rattle.question.specs.Promises.{Asked};
 
 use document::{Dimension, Fields, ROW_WORDS, Resolution, WORK_WORDS};
-use elimination::Found;
+use elimination::Layout;
 use filling::STRIDE;
 use running::Prepared;
 
@@ -51,21 +51,7 @@ fn enough(k: usize, t: usize, l: usize) -> usize
     requires { (k ≤ most_bits) × (t ≤ k) × (l ≤ most_output) }
     ensures { Enough k (t * l) result }
 {
-    let m = t * l;
-    if m > k {
-        return k + 1;
-    }
-    m
-}
-
-// What was found, as a number: n for nothing.
-fn number(f: Found, n: usize) -> usize
-    ensures { result ≡ number_of n f }
-{
-    match f {
-        Found::At(d) => d,
-        Found::Nothing => n,
-    }
+    (t * l).min(k + 1)
 }
 
 // The first of the first n rows that is a sum of those before it, which then carries the set; n if
@@ -75,10 +61,15 @@ fn search(work: &mut [u64], p: Prepared, l: usize, n: usize) -> usize
     ensures { Searched (machine_of p) l n work.old result work.new }
 {
     filling::fill(work, p, l, n);
-    elimination::set_tags(work, n, STRIDE, STRIDE, ROW_WORDS);
-    let mut slots = [0usize; 64 * ROW_WORDS];
-    let f = elimination::eliminate(work, n, STRIDE, STRIDE, ROW_WORDS, &mut slots);
-    number(f, n)
+    // The sets are added up with the rows.
+    let layout = Layout {
+        stride: STRIDE,
+        width: STRIDE,
+        lead: ROW_WORDS,
+    };
+    elimination::set_tags(work, n, layout);
+    let mut slots = [0; 64 * ROW_WORDS];
+    elimination::eliminate(work, n, layout, &mut slots).unwrap_or(n)
 }
 
 // What was found, as a reply.
