@@ -1,12 +1,12 @@
 // The listing of a description.
 ghost use Rattle.listing_text.specs.Listing.{Listed};
 
-use crate::lines::put_refused;
-use crate::pages::put_page;
+use crate::whole::{put_page, put_refused};
 use description::read;
-use document::{Fields, MOST_BITS, MOST_OUTPUT, WORK_WORDS};
+use document::{MOST_BITS, MOST_OUTPUT, WORK_WORDS};
 use report::report;
 use running::prepare;
+use tables::Sizes;
 
 // No line is longer, and no listing.
 pub const LINE_BYTES: usize = 32;
@@ -22,10 +22,14 @@ pub fn listing(bytes: &[u8], out: &mut [u8]) -> usize
     }
     let reading = read(bytes);
     if reading.refusal != 0 {
-        return put_refused(out, 0, reading.refusal);
+        return put_refused(out, reading.refusal);
     }
     let mut work = [0u64; WORK_WORDS];
     let r = report(reading.fields, &mut work);
     let p = prepare(reading.fields);
-    put_page(out, p.k, p.bits, r)
+    let sizes = Sizes {
+        k: p.k,
+        bits: p.bits,
+    };
+    put_page(out, sizes, &r)
 }

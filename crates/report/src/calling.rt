@@ -7,6 +7,7 @@ use crate::reply::{Report, refused};
 use document::{Fields, WORK_WORDS};
 use elimination::clear_words;
 use running::prepare;
+use tables::Sizes;
 
 // The report of a generator, made in a lent work buffer that is cleared at the end; or a refusal, and the buffer is left.
 pub fn report(g: Fields, work: &mut [u64]) -> Report
@@ -19,5 +20,9 @@ pub fn report(g: Fields, work: &mut [u64]) -> Report
     let p = prepare(g);
     let first = first_bits(p, work);
     clear_words(work, 0, WORK_WORDS);
-    of_first(first, p.k, p.bits)
+    let sizes = Sizes {
+        k: p.k,
+        bits: p.bits,
+    };
+    of_first(&first, sizes)
 }

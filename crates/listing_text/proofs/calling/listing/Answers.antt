@@ -20,6 +20,9 @@ returns-then-reading-ne0 c = listed _ (search rules) (ap refused_line c.read-rea
 pub prepare-p-requires : goal.prepare-p-requires
 prepare-p-requires c = rw (c.read-reading.ensures.accepted (sym c.read-reading.ensures.number ∙ c.if-reading-ne0.false)) (read_accepted c.args.bytes.now (sym c.read-reading.ensures.number ∙ c.if-reading-ne0.false))
 
+pub invariant_of-sizes : goal.invariant_of-sizes
+invariant_of-sizes c = let x = (made c.args.bytes.now _ _ _ _ _ (sym c.read-reading.ensures.number ∙ c.if-reading-ne0.false) (c.read-reading.ensures.accepted (sym c.read-reading.ensures.number ∙ c.if-reading-ne0.false)) (search rules) c.report-r.ensures c.prepare-p.ensures).fits in record { few = x.size; narrow = x.width }
+
 pub put_page-requires : goal.put_page-requires
 put_page-requires c = ((made c.args.bytes.now _ _ _ _ _ (sym c.read-reading.ensures.number ∙ c.if-reading-ne0.false) (c.read-reading.ensures.accepted (sym c.read-reading.ensures.number ∙ c.if-reading-ne0.false)) (search rules) c.report-r.ensures c.prepare-p.ensures).fits, omega arith)
 

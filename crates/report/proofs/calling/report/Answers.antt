@@ -22,8 +22,8 @@ first_bits-first-requires c = let x = prepared_fits c.args.g c.prepare-p.result 
 pub clear_words-requires : goal.clear_words-requires
 clear_words-requires c = omega (arith, c.first_bits-first.ensures.long, (report_accepted c.args.g _ (sym c.report_refusal-refusal.ensures ∙ c.if-refusal-ne0.false)).1)
 
-pub of_first-requires : goal.of_first-requires
-of_first-requires c = let x = prepared_fits c.args.g c.prepare-p.result (report_accepted c.args.g _ (sym c.report_refusal-refusal.ensures ∙ c.if-refusal-ne0.false)).0 c.prepare-p.ensures in (x.size, x.bits)
+pub invariant_of-sizes : goal.invariant_of-sizes
+invariant_of-sizes c = let x = prepared_fits c.args.g c.prepare-p.result (report_accepted c.args.g _ (sym c.report_refusal-refusal.ensures ∙ c.if-refusal-ne0.false)).0 c.prepare-p.ensures in record { few = x.size; narrow = x.bits }
 
 pub shape_of-work : goal.shape_of-work
 shape_of-work c = c.clear_words.ensures.kept.long ∙ c.first_bits-first.ensures.long
