@@ -55,3 +55,14 @@ by_number Tausworthe a b c d = refl
 by_number Gfsr a b c d = refl
 by_number Twisted a b c d = refl
 by_number Mersenne a b c d = refl
+
+-- a byte that names a kind is 1 to 4
+pub kind_inside : (byte : ℕ) (kind : Kind) → kind_number kind ≡ byte → outside 1 4 byte ≡ false
+unfolding outside
+kind_inside byte kind e = ap (outside 1 4) (sym e) ∙ inside kind
+  where
+    inside : (kind : Kind) → outside 1 4 (kind_number kind) ≡ false
+    inside Tausworthe = refl
+    inside Gfsr = refl
+    inside Twisted = refl
+    inside Mersenne = refl
