@@ -6,23 +6,23 @@ use Rattle.document.specs.declared.kind.Kind.{Kind}
 use Rattle.document.specs.declared.kind.Kind.TheVariants.{Tausworthe, Gfsr, Twisted, Mersenne}
 use Rattle.document.specs.declared.refusals.Refusal.{Refusal}
 use Rattle.document.specs.Generator.{by_kind}
-use Rattle.document.specs.Answer.{Names, kind_number}
+use Rattle.document.specs.Answer.{Names, kind_number, column}
 use Rattle.document.specs.Refusals.{outside}
 use Rattle.document.specs.Ranges.{is_other}
 
-named : (kind : Kind) → kind ≡ by_kind (kind_number kind) Tausworthe Gfsr Twisted Mersenne
+named : (kind : Kind) → kind ≡ column (kind_number kind)
 unfolding by_kind
 named Tausworthe = refl
 named Gfsr = refl
 named Twisted = refl
 named Mersenne = refl
 
-nameless : (byte : ℕ) → outside 1 4 byte ≡ true → Mersenne ≡ by_kind byte Tausworthe Gfsr Twisted Mersenne
+nameless : (byte : ℕ) → outside 1 4 byte ≡ true → Mersenne ≡ column byte
 unfolding outside
 nameless byte e = sym (is_other byte _ _ _ _ (λ q. grind (arith, q, e)) (λ q. grind (arith, q, e)) (λ q. grind (arith, q, e)))
 
-pub column_of : (byte : ℕ) (r : Result Kind Refusal) → Names byte r → result_unwrap_or r Mersenne ≡ by_kind byte Tausworthe Gfsr Twisted Mersenne
-column_of byte (Ok kind) e = named kind ∙ ap (λ n. by_kind n Tausworthe Gfsr Twisted Mersenne) e
+pub column_of : (byte : ℕ) (r : Result Kind Refusal) → Names byte r → result_unwrap_or r Mersenne ≡ column byte
+column_of byte (Ok kind) e = named kind ∙ ap column e
 column_of byte (Err _) e = nameless byte e.1
 
 -- ---- what is said by the kind, where the kind is known
@@ -34,7 +34,7 @@ pick Gfsr a b c d = b
 pick Twisted a b c d = c
 pick Mersenne a b c d = d
 
-pick_by : {A : Type 0} (byte : ℕ) (a b c d : A) → pick (by_kind byte Tausworthe Gfsr Twisted Mersenne) a b c d ≡ by_kind byte a b c d
+pick_by : {A : Type 0} (byte : ℕ) (a b c d : A) → pick (column byte) a b c d ≡ by_kind byte a b c d
 unfolding by_kind
 pick_by byte a b c d = go (eqb byte 1) (eqb byte 2) (eqb byte 3)
   where
@@ -44,17 +44,11 @@ pick_by byte a b c d = go (eqb byte 1) (eqb byte 2) (eqb byte 3)
     go false false true = refl
     go false false false = refl
 
-pub in_column : {A : Type 0} (byte : ℕ) (kind : Kind) (a b c d x : A) → kind ≡ by_kind byte Tausworthe Gfsr Twisted Mersenne → x ≡ pick kind a b c d
-    → x ≡ by_kind byte a b c d
+pub in_column : {A : Type 0} (byte : ℕ) (kind : Kind) (a b c d x : A) → kind ≡ column byte → x ≡ pick kind a b c d → x ≡ by_kind byte a b c d
 in_column byte kind a b c d x e f = f ∙ ap (λ k. pick k a b c d) e ∙ pick_by byte a b c d
 
--- the byte of a kind goes by that kind
-pub by_number : {A : Type 0} (kind : Kind) (a b c d : A) → by_kind (kind_number kind) a b c d ≡ pick kind a b c d
-unfolding by_kind
-by_number Tausworthe a b c d = refl
-by_number Gfsr a b c d = refl
-by_number Twisted a b c d = refl
-by_number Mersenne a b c d = refl
+pub at_column : {A : Type 0} (byte : ℕ) (kind : Kind) (a b c d : A) → column byte ≡ kind → by_kind byte a b c d ≡ pick kind a b c d
+at_column byte kind a b c d e = sym (pick_by byte a b c d) ∙ ap (λ k. pick k a b c d) e
 
 -- a byte that names a kind is 1 to 4
 pub kind_inside : (byte : ℕ) (kind : Kind) → kind_number kind ≡ byte → outside 1 4 byte ≡ false

@@ -1,9 +1,10 @@
--- What a check answers: the number of a refusal, 0 where nothing is refused; and the kind that a byte names.
+-- What a check answers: the number of a refusal, 0 where nothing is refused; and the kind that a byte names, or whose rules it goes by.
 use Rattle.std.specs.Prelude.{◌≡◌, true, ℕ, Result, Ok, Err, MatchResult}
 use Rattle.document.specs.declared.kind.Kind.{Kind}
 use Rattle.document.specs.declared.kind.Kind.TheVariants.{Tausworthe, Gfsr, Twisted, Mersenne}
 use Rattle.document.specs.declared.refusals.Refusal.{Refusal}
 use Rattle.document.specs.declared.refusals.Refusal.TheVariants as R
+use Rattle.document.specs.Generator.{by_kind}
 use Rattle.document.specs.Refusals.{outside}
 
 -- the first column of the table
@@ -35,3 +36,7 @@ kind_number Mersenne = 4
 -- the kind that a byte names; a byte that is not 1 to 4 names none
 abbrev pub Names : ℕ → Result Kind Refusal → Type 0
 Names byte answer = MatchResult answer (λ kind. kind_number kind ≡ byte) (λ e. (e ≡ R.Kind) × (outside 1 4 byte ≡ true))
+
+-- the kind by whose rules every byte goes: `by_kind` gives a byte that names no kind what it gives the last one
+abbrev pub column : ℕ → Kind
+column byte = by_kind byte Tausworthe Gfsr Twisted Mersenne

@@ -1,8 +1,6 @@
 // The four kinds of generator, and the bytes that name them.
 ghost use Rattle.std.specs.Prelude.{◌≡◌};
-ghost use Rattle.document.specs.Generator.{by_kind};
-ghost use Rattle.document.specs.Answer.{Names};
-ghost use Rattle.document.specs.declared.kind.Kind.TheVariants.{Tausworthe, Gfsr, Twisted, Mersenne};
+ghost use Rattle.document.specs.Answer.{Names, column};
 
 use crate::refusals::Refusal;
 
@@ -34,7 +32,7 @@ impl TryFrom<u8> for Kind {
 impl Kind {
     // The kind by whose rules fields with this byte are read: a byte that names no kind goes by the last one's.
     pub fn column(byte: u8) -> Kind
-        ensures { result ≡ by_kind byte Tausworthe Gfsr Twisted Mersenne }
+        ensures { result ≡ column byte }
     {
         Kind::try_from(byte).unwrap_or(Kind::Mersenne)
     }

@@ -5,7 +5,7 @@ mod kind;
 mod refusals;
 
 pub use kind::Kind;
-pub use refusals::Refusal;
+pub use refusals::{Refusal, refusal_of};
 
 // The most state bits of a generator, and the words of 64 bits that hold them.
 pub const MOST_BITS: usize = 480;
