@@ -21,7 +21,8 @@ use Rattle.kinds.specs.Transpose.{down, taps}
 use Rattle.kinds.specs.Adjoint.{taps-sum}
 use Rattle.kinds.specs.Recurrence.{bits_start}
 use Rattle.states.specs.Post.{Flipped, Holds, state_bits}
-use Rattle.running.specs.Prepared.{Mask, Stepped, tapped}
+use Rattle.running.specs.Ranges.{Mask}
+use Rattle.running.specs.Prepared.{Stepped, tapped}
 use Rattle.running.proofs.Numbers.{bit-number, number_lt, mirrored_number}
 
 -- the taps of the coefficients of a mask are its bits
