@@ -15,6 +15,7 @@ impl Rows for Gfsr {
         let mut d = states::lowered(row, self.w);
         for i in 0..self.r {
             if states::bit_at(self.mask, i) {
+                // In two steps: the checker covers no call whose result is laid in the array that it is passed.
                 let next = states::placed(d, i * self.w, self.w, y);
                 d = next;
             }

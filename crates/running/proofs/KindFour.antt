@@ -5,14 +5,14 @@ use Prim.Native.Nat.{ℕ, ◌+◌, ◌-◌, ◌*◌, ◌≤◌}
 use native.Mathlib.Omega.{arith}
 use lib.Bits.{bit_xor, xor_lt}
 use Rattle.theory.specs.Def.{◌⊕◌}
-use Rattle.digits.specs.Def.{Same, digit, bits_of, word_of, number_of}
+use Rattle.digits.specs.Def.{Same, digit, bits_of, number_of}
 use Rattle.digits.specs.Laws.{digit-xor}
 use Rattle.kinds.specs.Generator.{◌⊻◌, word, join, twist, add_left, add_right, next4, temper3, temper4, enter, mersenne}
 use Rattle.kinds.specs.Reads.{same_twist, same_join, same_add_left, same_add_right}
 use Rattle.states.specs.Post.{Holds, state_bits}
 use Rattle.running.specs.declared.ready.Twister.{Twister}
 use Rattle.running.specs.Prepared.{machine4}
-use Rattle.running.proofs.Numbers.{mirrored_number}
+use Rattle.running.specs.Ready.{same_bits}
 use Rattle.running.proofs.KindTwo.{entered_is}
 
 pub next4_is : (ws : List ℕ) (r m w p a x y u z v : ℕ) → 1 ≤ w
@@ -47,6 +47,6 @@ module _ (p : Twister) (ws : List ℕ) where
   moved4_is out x h e i l = entered_is state_bits ws out p.w x _ h e i (omega (arith, p.words.fit))
 
   pub output4_is : (x r : ℕ) → Holds p.w (temper4 p.w p.u p.s (digit p.b) p.t (digit p.c) p.v (word p.w 0 (bits_of ws))) x
-      → Holds p.bits (word_of p.bits x) r → r ≡ number_of (machine4 p).width ((machine4 p).out (bits_of ws))
+      → r ≡ number_of p.bits (digit x) → r ≡ number_of (machine4 p).width ((machine4 p).out (bits_of ws))
   unfolding mersenne
-  output4_is x r h e = mirrored_number p.bits x r _ e (λ j l. h.bits j (omega (arith, p.words.bits)))
+  output4_is x r h e = e ∙ same_bits p.bits _ _ (λ j l. h.bits j (omega (arith, p.words.bits)))

@@ -9,14 +9,14 @@ use lib.Bits.{bit_xor, xor_lt}
 use lib.Pow.{pow_pos}
 use Rattle.theory.specs.Def.{◌⊕◌, xorsum}
 use Rattle.theory.specs.Laws.{⊕_false}
-use Rattle.digits.specs.Def.{Word, Same, digit, bits_of, word_of, number_of}
+use Rattle.digits.specs.Def.{Word, Same, digit, bits_of, number_of}
 use Rattle.digits.specs.Laws.{digit-xor, digit-zero}
 use Rattle.kinds.specs.Generator.{word, next2, enter, gfsr}
 use Rattle.kinds.specs.Reads.{same_enter}
 use Rattle.states.specs.Post.{Holds, state_bits}
 use Rattle.running.specs.declared.ready.Gfsr.{Gfsr}
 use Rattle.running.specs.Prepared.{machine2}
-use Rattle.running.proofs.Numbers.{mirrored_number}
+use Rattle.running.specs.Ready.{same_bits}
 
 -- x is the sum of the first n words that are chosen
 pub record Chosen (a ws : List ℕ) (w n x : ℕ) : Type 0 where
@@ -59,6 +59,6 @@ module _ (p : Gfsr) (ws : List ℕ) where
   unfolding gfsr
   moved2_is out x h e i l = entered_is state_bits ws out p.w x _ h e i (omega (arith, p.words.fit))
 
-  pub output2_is : (x r : ℕ) → Holds p.bits (λ j. bits_of ws (0 + j)) x → Holds p.bits (word_of p.bits x) r → r ≡ number_of (machine2 p).width ((machine2 p).out (bits_of ws))
+  pub output2_is : (x r : ℕ) → Holds p.bits (λ j. bits_of ws (0 + j)) x → r ≡ number_of p.bits (digit x) → r ≡ number_of (machine2 p).width ((machine2 p).out (bits_of ws))
   unfolding gfsr word
-  output2_is x r h e = mirrored_number p.bits x r _ e (λ j l. let g : 0 + j ≡ 0 * p.w + j = omega arith in h.bits j l ∙ ap (bits_of ws) g)
+  output2_is x r h e = e ∙ same_bits p.bits _ _ (λ j l. let g : 0 + j ≡ 0 * p.w + j = omega arith in h.bits j l ∙ ap (bits_of ws) g)

@@ -1,8 +1,8 @@
 -- The proofs that a prepared generator keeps its ranges, and stands for the machine of the description.
-use Rattle.std.specs.Prelude.{◌≡◌, ℕ, suc, ◌-◌, ◌≤◌}
+use Rattle.std.specs.Prelude.{refl, cond, zero, ◌*◌, ◌+◌, ◌≡◌, ℕ, suc, ◌-◌, ◌≤◌}
 use Rattle.std.proofs.Math.Logic.{inl, inr}
-use Rattle.std.proofs.Common.{sym, ap, subst, ◌∙◌, arith}
-use Rattle.digits.specs.Def.{Word, Same, digit}
+use Rattle.std.proofs.Common.{ap₂, sym, ap, subst, ◌∙◌, arith}
+use Rattle.digits.specs.Def.{Word, Same, digit, number_of}
 use Rattle.kinds.specs.Generator.{Machine, tausworthe, gfsr, mersenne}
 use Rattle.kinds.specs.Reads.{LocalMachine}
 use Rattle.kinds.specs.Theorems.{tausworthe_local, gfsr_local, mersenne_local}
@@ -17,6 +17,12 @@ use Rattle.running.specs.declared.ready.Twister.{Twister}
 use Rattle.running.specs.declared.ready.Prepared.{Prepared}
 use Rattle.running.specs.declared.ready.Prepared.TheVariants.{Tausworthe as OfTausworthe, Gfsr as OfGfsr, Twister as OfTwister}
 use Rattle.running.specs.Prepared.{tapped, machine4, machine_of, Ready, PreparedFor, Prepared4}
+
+-- the same bits are the same number
+pub same_bits : (m : ℕ) (x y : Word) → Same m x y → number_of m x ≡ number_of m y
+unfolding number_of
+same_bits zero x y h = refl
+same_bits (suc m) x y h = ap₂ (λ a b. 2 * a + cond b 1 0) (same_bits m x y (λ j l. h j (omega arith))) (h m (omega arith))
 
 -- ---- the ranges
 

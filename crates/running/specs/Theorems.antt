@@ -1,6 +1,6 @@
 -- What callers conclude from the contracts of `prepare`, `moved` and `output`.
-use Rattle.std.specs.Prelude.{◌≡◌, refl, cond, List, ℕ, zero, suc, ◌+◌, ◌*◌, ◌≤◌}
-use Rattle.std.proofs.Common.{ap, ap₂, ◌∙◌, arith}
+use Rattle.std.specs.Prelude.{◌≡◌, refl, List, ℕ, ◌+◌, ◌≤◌}
+use Rattle.std.proofs.Common.{ap, ◌∙◌}
 use Rattle.std.proofs.Math.Numerals.{add-one}
 use Rattle.digits.specs.Def.{Word, Same, bits_of, number_of}
 use Rattle.kinds.specs.Generator.{Machine, times, output_bit}
@@ -14,11 +14,6 @@ use Rattle.document.specs.Outputs.{output}
 use Rattle.running.specs.declared.ready.Prepared.{Prepared}
 use Rattle.running.specs.Prepared.{Ready, PreparedFor, machine_of}
 use Rattle.running.specs.Ready as R
-
-same_bits : (m : ℕ) (x y : Word) → Same m x y → number_of m x ≡ number_of m y
-unfolding number_of
-same_bits zero x y h = refl
-same_bits (suc m) x y h = ap₂ (λ a b. 2 * a + cond b 1 0) (same_bits m x y (λ j l. h j (omega arith))) (h m (omega arith))
 
 -- ---- a prepared generator
 
@@ -42,7 +37,7 @@ unfolding output
 prepared_output g p x y n s =
     let a = R.prepared_alike g p x y in
     ap (λ k. number_of k (λ j. output_bit (machine_of p) n j s)) a.width
-    ∙ same_bits (machine g).width _ _ (λ j h. alike_output (machine_of p) (machine g) a n j h s s (λ _ _. refl))
+    ∙ R.same_bits (machine g).width _ _ (λ j h. alike_output (machine_of p) (machine g) a n j h s s (λ _ _. refl))
 
 -- bits of the state from k on play no part
 pub ready_local : (p : Prepared) → LocalMachine (machine_of p)
@@ -78,4 +73,4 @@ module _ (M : Machine) (l : LocalMachine M) (n : ℕ) (s t : List ℕ) (a : Afte
   -- `output` then gives output n
   pub after_output : (r : ℕ) → r ≡ number_of M.width (M.out (bits_of t)) → r ≡ output M n (bits_of s)
   unfolding output output_bit
-  after_output r e = e ∙ same_bits M.width _ _ (l.out _ _ a.bits)
+  after_output r e = e ∙ R.same_bits M.width _ _ (l.out _ _ a.bits)

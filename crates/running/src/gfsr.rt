@@ -5,7 +5,7 @@ ghost use Rattle.kinds.specs.Generator.{next2};
 ghost use Rattle.states.specs.Post.{Holds};
 ghost use Rattle.running.specs.Prepared.{machine2};
 
-use crate::{Gfsr, Runs};
+use crate::{Gfsr, Runs, number};
 use document::ROW_WORDS;
 
 impl Gfsr {
@@ -36,13 +36,11 @@ impl Runs for Gfsr {
     }
 
     fn moved(self, s: [u64; ROW_WORDS]) -> [u64; ROW_WORDS] {
-        let x = self.next(s);
-        states::shifted_up(s, self.w, x)
+        states::shifted_up(s, self.w, self.next(s))
     }
 
     // The output: the leading bits of the first word.
     fn output(self, s: [u64; ROW_WORDS]) -> u32 {
-        let x = states::word_at(s, 0, self.bits);
-        states::words::mirrored(x, self.bits) as u32
+        number(states::word_at(s, 0, self.bits), self.bits)
     }
 }

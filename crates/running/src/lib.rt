@@ -1,9 +1,10 @@
 // Generators run on states of eight words by value: a generator is prepared once, then moved and asked for its output.
 #![tactic(auto)]
 
-ghost use Rattle.std.specs.Prelude.{◌≡◌};
-ghost use Rattle.digits.specs.Def.{Same, bits_of, number_of};
+ghost use Rattle.std.specs.Prelude.{◌≡◌, ◌<◌, ◌≤◌, ◌^◌};
+ghost use Rattle.digits.specs.Def.{Same, digit, bits_of, number_of};
 ghost use Rattle.kinds.specs.Generator.{Machine};
+ghost use Rattle.document.specs.Limits.{most_output};
 ghost use Rattle.document.specs.Ranges.{Accepted};
 ghost use Rattle.running.specs.Prepared.{PreparedFor, machine_of};
 
@@ -72,6 +73,14 @@ impl Runs for Prepared {
             Prepared::Twister(t) => t.output(s),
         }
     }
+}
+
+// The first n bits of a word as a number, the first the most significant.
+fn number(x: u64, n: usize) -> u32
+    requires { (x < 2 ^ 32) × (n ≤ most_output) }
+    ensures { result ≡ number_of n (digit x) }
+{
+    states::words::mirrored(x, n) as u32
 }
 
 // The generator that a description's fields stand for, made ready.

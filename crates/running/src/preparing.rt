@@ -25,6 +25,7 @@ pub fn coefficient_mask(c: [u8; COEFFICIENT_BYTES]) -> [u64; ROW_WORDS]
 {
     let mut mask = [0; ROW_WORDS];
     for (j, byte) in c.iter().enumerate() {
+        // In two steps: the checker covers no call whose result is laid in the array that it is passed.
         let next = states::placed(mask, 8 * j, 8, words::mirrored(u64::from(*byte), 8));
         mask = next;
     }
@@ -38,6 +39,7 @@ pub fn tap_mask(k: usize, c: [u64; ROW_WORDS]) -> [u64; ROW_WORDS]
 {
     let mut mask = states::flipped([0; ROW_WORDS], k);
     for i in 0..k {
+        // In two steps, as above; and a fold's closure would have to be told that i is below k.
         let next = states::placed(mask, k - 1 - i, 1, states::word_at(c, i, 1));
         mask = next;
     }

@@ -3,7 +3,7 @@ ghost use Rattle.std.specs.Prelude.{◌≡◌, ◌≤◌};
 ghost use Rattle.digits.specs.Def.{bits_of, number_of};
 ghost use Rattle.running.specs.Prepared.{Stepped, machine1};
 
-use crate::{Runs, Tausworthe};
+use crate::{Runs, Tausworthe, number};
 use document::ROW_WORDS;
 
 impl Tausworthe {
@@ -24,8 +24,7 @@ impl Tausworthe {
         requires { self.bits ≤ self.k }
         ensures { result ≡ number_of self.bits ((machine1 self).out (bits_of s)) }
     {
-        let x = states::word_at(s, 0, self.bits);
-        states::words::mirrored(x, self.bits) as u32
+        number(states::word_at(s, 0, self.bits), self.bits)
     }
 
     // The output where the recurrence goes on: the first bit of each of L states in a row.
@@ -58,6 +57,7 @@ impl Runs for Tausworthe {
     fn moved(self, s: [u64; ROW_WORDS]) -> [u64; ROW_WORDS] {
         let mut t = s;
         for _ in 0..self.nu {
+            // In two steps: the checker covers no call whose result is laid in the array that it is passed.
             let next = self.stepped(t);
             t = next;
         }

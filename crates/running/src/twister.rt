@@ -5,7 +5,7 @@ ghost use Rattle.kinds.specs.Generator.{next4, temper4, word};
 ghost use Rattle.states.specs.Post.{Holds};
 ghost use Rattle.running.specs.Prepared.{machine4};
 
-use crate::{Runs, Twister};
+use crate::{Runs, Twister, number};
 use document::ROW_WORDS;
 use states::words;
 
@@ -46,13 +46,11 @@ impl Runs for Twister {
     }
 
     fn moved(self, s: [u64; ROW_WORDS]) -> [u64; ROW_WORDS] {
-        let x = self.next(s);
-        states::shifted_up(s, self.w, x)
+        states::shifted_up(s, self.w, self.next(s))
     }
 
     // The output: the leading bits of the first word tempered.
     fn output(self, s: [u64; ROW_WORDS]) -> u32 {
-        let x = self.tempered(s);
-        words::mirrored(x, self.bits) as u32
+        number(self.tempered(s), self.bits)
     }
 }

@@ -2,4 +2,4 @@ use Rattle.running.proofs.KindFour.{moved4_is}
 use Rattle.running.proofs.twister.TwisterRuns.moved.Goals as goal
 
 pub returns : goal.returns
-returns c = moved4_is c.args.self _ _ _ c.next-x.ensures c.shifted_up.ensures
+returns c = moved4_is c.args.self _ _ _ c.next.ensures c.shifted_up.ensures
