@@ -9,6 +9,7 @@ ghost use Rattle.kinds.specs.Transpose.{down, place};
 ghost use Rattle.states.specs.Post.{Holds, Flipped, state_bits};
 
 use document::ROW_WORDS;
+use std::array;
 
 mod past;
 pub mod words;
@@ -34,13 +35,10 @@ pub fn shifted_up(s: [u64; ROW_WORDS], w: usize, new: u64) -> [u64; ROW_WORDS]
     requires { (1 ≤ w) × (w ≤ 32) × (new < 2 ^ w) }
     ensures { Same state_bits (bits_of result) (enter w (digit new) (bits_of s)) }
 {
-    let mut r = [0u64; ROW_WORDS];
-    let mut carry = new;
-    for i in 0..ROW_WORDS {
-        r[i] = (s[i] << w) ^ carry;
-        carry = s[i] >> (64 - w);
-    }
-    r
+    array::from_fn(|i| {
+        let below = if i == 0 { new } else { s[i - 1] >> (64 - w) };
+        (s[i] << w) ^ below
+    })
 }
 
 // The state moved down by w bits.
@@ -48,23 +46,21 @@ pub fn lowered(s: [u64; ROW_WORDS], w: usize) -> [u64; ROW_WORDS]
     requires { (1 ≤ w) × (w ≤ 32) }
     ensures { (i : ℕ) → bits_of result i ≡ down w (bits_of s) i }
 {
-    let mut r = [0u64; ROW_WORDS];
-    r[ROW_WORDS - 1] = s[ROW_WORDS - 1] >> w;
-    for i in 0..ROW_WORDS - 1 {
-        r[i] = (s[i] >> w) ^ (s[i + 1] << (64 - w));
-    }
-    r
+    array::from_fn(|i| {
+        let above = if i + 1 < ROW_WORDS {
+            s[i + 1] << (64 - w)
+        } else {
+            0
+        };
+        (s[i] >> w) ^ above
+    })
 }
 
 // The sum of two states, bit by bit.
 pub fn added(s: [u64; ROW_WORDS], t: [u64; ROW_WORDS]) -> [u64; ROW_WORDS]
     ensures { (i : ℕ) → bits_of result i ≡ bits_of s i ⊕ bits_of t i }
 {
-    let mut r = [0u64; ROW_WORDS];
-    for i in 0..ROW_WORDS {
-        r[i] = s[i] ^ t[i];
-    }
-    r
+    array::from_fn(|i| s[i] ^ t[i])
 }
 
 // The state with the n bits of y added at position pos.
@@ -75,11 +71,11 @@ pub fn placed(s: [u64; ROW_WORDS], pos: usize, n: usize, y: u64) -> [u64; ROW_WO
     let q = pos / 64;
     let o = pos % 64;
     let mut r = s;
-    r[q] = r[q] ^ (y << o);
+    r[q] ^= y << o;
     if o + n <= 64 {
         return r;
     }
-    r[q + 1] = r[q + 1] ^ (y >> (64 - o));
+    r[q + 1] ^= y >> (64 - o);
     r
 }
 
@@ -89,7 +85,7 @@ pub fn flipped(s: [u64; ROW_WORDS], i: usize) -> [u64; ROW_WORDS]
     ensures { Flipped s i result }
 {
     let mut r = s;
-    r[i / 64] = r[i / 64] ^ (1 << (i % 64));
+    r[i / 64] ^= 1 << (i % 64);
     r
 }
 
@@ -97,11 +93,11 @@ pub fn flipped(s: [u64; ROW_WORDS], i: usize) -> [u64; ROW_WORDS]
 pub fn parity(a: [u64; ROW_WORDS], b: [u64; ROW_WORDS]) -> bool
     ensures { result ≡ xorsum state_bits (λ i. bits_of a i && bits_of b i) }
 {
-    let mut acc = 0;
-    for i in 0..ROW_WORDS {
-        acc = acc ^ (a[i] & b[i]);
+    let mut common = 0;
+    for (x, y) in a.iter().zip(b.iter()) {
+        common ^= x & y;
     }
-    u64::count_ones(acc) % 2 == 1
+    common.count_ones() % 2 == 1
 }
 
 // Bit i of the state.

@@ -28,7 +28,7 @@ pub fn untwisted(w: usize, a: u64, y: u64) -> u64
     ensures { Holds w (untwist w (digit a) (digit y)) result }
 {
     let h = y >> 1;
-    if u64::count_ones(a & y) % 2 == 1 {
+    if (a & y).count_ones() % 2 == 1 {
         h ^ (1 << (w - 1))
     } else {
         h
