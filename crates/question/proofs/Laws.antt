@@ -34,7 +34,7 @@ use Rattle.span.specs.Theorems as Span
 use Rattle.elimination.specs.Words.{Cleared}
 use Rattle.elimination.specs.Rows.{rows_of, set_of, Tagging, Outcome}
 use Rattle.elimination.specs.Theorems.{finished_independent, stopped_independent, stopped_set, stopped_set_ends}
-use Rattle.std.specs.Prelude.{Option, Some, None, unwrap_or}
+use Rattle.std.specs.Prelude.{Option, Some, None}
 use Rattle.elimination.proofs.RowBits.{bits_same}
 use Rattle.filling.specs.Rows.{stride, state_row, Filled}
 use Rattle.filling.specs.Theorems.{rows_cells, not_yes}
@@ -79,25 +79,21 @@ module _ (M : Machine) (l n : ℕ) (few : n ≤ 64 * row_words) (ws filled tagge
       let e : i * stride + 0 ≡ i * stride = omega arith in
       sym (bits_same filled tagged (i * stride) b (y.before i (b / 64) h (omega arith)) ∙ rw e at ((x.rows i h).bits b f))
 
-  pub searched : (slots out slots' : List ℕ) (f : Option ℕ) → Outcome tagged n stride stride row_words slots out slots' f → Searched M l n ws (unwrap_or f n) out
+  pub searched : (slots out slots' : List ℕ) (f : Option ℕ) → Outcome tagged n stride stride row_words slots out slots' f → Searched M l n ws f out
   searched slots out slots' (Some d) z = record {
-    most = omega (arith, z.place);
     rows = λ i h. (x.rows i h).is;
-    found = λ _. record {
+    outcome = record {
       place = z.place;
       set = dependent_same (state_row M l) (λ i h. came i (omega (arith, z.place))) (stopped_set (omega arith) z (omega arith) y.tags);
       before = independent_same (64 * row_words) d (rows_of tagged stride) (state_row M l) (λ i h. came i (omega (arith, z.place))) (stopped_independent (omega arith) z);
       ends = stopped_set_ends (omega arith) z (omega arith) y.tags;
     };
-    none = λ e. absurd (omega (arith, z.place));
     long = z.state.long ∙ y.long ∙ x.long;
     behind = λ j h. z.state.behind j (omega (arith, z.place)) ∙ y.behind j h ∙ x.behind j h;
   }
   searched slots out slots' None z = record {
-    most = omega arith;
     rows = λ i h. (x.rows i h).is;
-    found = λ h. absurd (omega arith);
-    none = λ _. independent_same (64 * row_words) n (rows_of tagged stride) (state_row M l) came (finished_independent (omega arith) z);
+    outcome = independent_same (64 * row_words) n (rows_of tagged stride) (state_row M l) came (finished_independent (omega arith) z);
     long = z.state.long ∙ y.long ∙ x.long;
     behind = λ j h. z.state.behind j h ∙ y.behind j h ∙ x.behind j h;
   }
@@ -141,38 +137,38 @@ first_same M l n d S T f e x = record {
       cancels = λ i g. xorsum_cong (suc d) _ _ (λ p q. ap (λ b. b && state_row M l p i) (e p (omega arith))) ∙ y.cancels i g;
     }
 
-module _ (M : Machine) (l n : ℕ) (few : n ≤ most_bits + 1) (was mid : List ℕ) (d : ℕ) (x : Searched M l n was d mid) (r : Reply) (y : ReplyOf n d mid r)
-    (now : List ℕ) (z : Cleared mid 0 work_words now) where
-  memory : Front work_words (λ _. 0) was now
-  memory = record {
+module _ (M : Machine) (l n : ℕ) (few : n ≤ most_bits + 1) (was mid : List ℕ) (r : Reply) (now : List ℕ) (z : Cleared mid 0 work_words now) where
+  memory : {f : Option ℕ} → Searched M l n was f mid → Front work_words (λ _. 0) was now
+  memory x = record {
     long = z.kept.long ∙ x.long;
     front = λ i h. rw zero-add at (z.here i h);
     rest = λ i h. z.kept.above i (omega arith) ∙ x.behind i (omega arith);
   }
 
-  pub decided : Decided M l n was r now
-  decided = by_cases (dec_lt d n)
-      (λ h. let (a, b, c) = y.no h in record {
+  pub decided : (f : Option ℕ) → Searched M l n was f mid → ReplyOf f mid r → Decided M l n was r now
+  decided (Some d) x y =
+      let (a, b, c) = y.verdict in record {
         refusal = y.refusal;
         long = y.long;
         small = y.small;
         rows = x.rows;
-        no = λ _. rw b (first_same M l n d (set_of mid stride row_words d) (bits_of r.set) (omega arith) (same c) (x.found h));
+        no = λ _. rw b (first_same M l n d (set_of mid stride row_words d) (bits_of r.set) (omega arith) (same c) x.outcome);
         yes = λ e. absurd (true≢false (sym e ∙ a));
-        memory = memory;
-      })
-      (λ h. let (a, b, c) = y.yes (omega arith) in record {
+        memory = memory x;
+      }
+    where
+      same : ((k : ℕ) → k < row_words → get_or r.set k 0 ≡ get_or mid (d * stride + row_words + k) 0) → (i : ℕ) → i < 64 * row_words → bits_of r.set i ≡ set_of mid stride row_words d i
+      same e i h = copied_bits mid r.set (d * stride + row_words) e i h ∙ half_bits mid (d * stride) i
+  decided None x y =
+      let (a, b, c) = y.verdict in record {
         refusal = y.refusal;
         long = y.long;
         small = y.small;
         rows = x.rows;
         no = λ e. absurd (true≢false (sym a ∙ e));
-        yes = λ _. (x.none (omega (arith, x.most)), b, zero_bits r.set c);
-        memory = memory;
-      })
-    where
-      same : ((k : ℕ) → k < row_words → get_or r.set k 0 ≡ get_or mid (d * stride + row_words + k) 0) → (i : ℕ) → i < 64 * row_words → bits_of r.set i ≡ set_of mid stride row_words d i
-      same e i h = copied_bits mid r.set (d * stride + row_words) e i h ∙ half_bits mid (d * stride) i
+        yes = λ _. (x.outcome, b, zero_bits r.set c);
+        memory = memory x;
+      }
 
 -- ---- the answer
 

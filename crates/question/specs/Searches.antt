@@ -1,5 +1,5 @@
 -- What the steps of a question find.
-use Rattle.std.specs.Prelude.{◌≡◌, Bool, true, false, List, ℕ, ◌+◌, ◌*◌, ◌^◌, ◌<◌, ◌≤◌, length, get_or}
+use Rattle.std.specs.Prelude.{Option, MatchOption, ◌≡◌, Bool, true, false, List, ℕ, ◌+◌, ◌*◌, ◌^◌, ◌<◌, ◌≤◌, length, get_or}
 use Rattle.digits.specs.Def.{bits_of}
 use Rattle.kinds.specs.Generator.{Machine}
 use Rattle.document.specs.Limits.{row_words, work_words}
@@ -24,22 +24,20 @@ pub record FirstOf (M : Machine) (l n d : ℕ) (S : ℕ → Bool) : Type 0 where
   pub before : IndependentRows (64 * row_words) (state_row M l) d
   pub ends : (i : ℕ) → d < i → i < 64 * row_words → S i ≡ false
 
--- the set that ends at d stands in the second half of row d; or d is n, and the n rows are independent
-pub record Searched (M : Machine) (l n : ℕ) (ws : List ℕ) (d : ℕ) (out : List ℕ) : Type 0 where
-  pub most : d ≤ n
+-- the set that ends at d stands in the second half of row d; or none was found, and the n rows are independent
+pub record Searched (M : Machine) (l n : ℕ) (ws : List ℕ) (found : Option ℕ) (out : List ℕ) : Type 0 where
   pub rows : (i : ℕ) → i < n → RowOf M l i (state_row M l i)
-  pub found : d < n → FirstOf M l n d (set_of out stride row_words d)
-  pub none : d ≡ n → IndependentRows (64 * row_words) (state_row M l) n
+  pub outcome : MatchOption found (IndependentRows (64 * row_words) (state_row M l) n) (λ d. FirstOf M l n d (set_of out stride row_words d))
   pub long : length out ≡ length ws
   pub behind : (j : ℕ) → n * stride ≤ j → get_or out j 0 ≡ get_or ws j 0
 
 -- no, with the words of the set; or yes
-pub record ReplyOf (n d : ℕ) (ws : List ℕ) (r : Reply) : Type 0 where
+pub record ReplyOf (found : Option ℕ) (ws : List ℕ) (r : Reply) : Type 0 where
   pub refusal : r.refusal ≡ 0
   pub long : length r.set ≡ row_words
   pub small : (k : ℕ) → k < row_words → get_or r.set k 0 < 2 ^ 64
-  pub no : d < n → (r.yes ≡ false) × (r.d ≡ d) × ((k : ℕ) → k < row_words → get_or r.set k 0 ≡ get_or ws (d * stride + row_words + k) 0)
-  pub yes : n ≤ d → (r.yes ≡ true) × (r.d ≡ 0) × ((k : ℕ) → ◌≡◌ {A = ℕ} (get_or r.set k 0) 0)
+  pub verdict : MatchOption found ((r.yes ≡ true) × (r.d ≡ 0) × ((k : ℕ) → ◌≡◌ {A = ℕ} (get_or r.set k 0) 0))
+      (λ d. (r.yes ≡ false) × (r.d ≡ d) × ((k : ℕ) → k < row_words → get_or r.set k 0 ≡ get_or ws (d * stride + row_words + k) 0))
 
 -- the verdict on n rows, and the work buffer as zero
 pub record Decided (M : Machine) (l n : ℕ) (was : List ℕ) (r : Reply) (now : List ℕ) : Type 0 where

@@ -2,6 +2,7 @@
 #![tactic(auto)]
 
 ghost use Rattle.std.specs.Prelude.{◌≡◌, ◌+◌, ◌*◌, ◌<◌, ◌≤◌, length};
+ghost use Rattle.std.specs.Option.{ForSome};
 ghost use Rattle.document.specs.Limits.{row_words, most_bits, most_output, work_words};
 ghost use Rattle.document.specs.Refusals.{question_refusal};
 ghost use Rattle.running.specs.Prepared.{Ready, machine_of};
@@ -54,9 +55,8 @@ fn enough(k: usize, t: usize, l: usize) -> usize
     (t * l).min(k + 1)
 }
 
-// The first of the first n rows that is a sum of those before it, which then carries the set; n if
-// there is none.
-fn search(work: &mut [u64], p: Prepared, l: usize, n: usize) -> usize
+// The first of the first n rows that is a sum of those before it; that row then carries the set.
+fn search(work: &mut [u64], p: Prepared, l: usize, n: usize) -> Option<usize>
     requires { Ready p × (1 ≤ l) × (l ≤ p.bits) × (n ≤ 64 * row_words) × (n * stride ≤ length work.old) }
     ensures { Searched (machine_of p) l n work.old result work.new }
 {
@@ -69,28 +69,30 @@ fn search(work: &mut [u64], p: Prepared, l: usize, n: usize) -> usize
     };
     elimination::set_tags(work, n, layout);
     let mut slots = [0; 64 * ROW_WORDS];
-    elimination::eliminate(work, n, layout, &mut slots).unwrap_or(n)
+    elimination::eliminate(work, n, layout, &mut slots)
 }
 
 // What was found, as a reply.
-fn reply_of(work: &[u64], n: usize, d: usize) -> Reply
-    requires { n * stride ≤ length work.now }
-    ensures { ReplyOf n d work.now result }
+fn reply_of(work: &[u64], found: Option<usize>) -> Reply
+    requires { ForSome found (λ d. d * stride + stride ≤ length work.now) }
+    ensures { ReplyOf found work.now result }
 {
-    if d < n {
-        let set = filling::get_row(work, d * STRIDE + ROW_WORDS);
-        return Reply {
+    match found {
+        Some(d) => {
+            let set = filling::get_row(work, d * STRIDE + ROW_WORDS);
+            Reply {
+                refusal: 0,
+                yes: false,
+                d,
+                set,
+            }
+        }
+        None => Reply {
             refusal: 0,
-            yes: false,
-            d,
-            set,
-        };
-    }
-    Reply {
-        refusal: 0,
-        yes: true,
-        d: 0,
-        set: [0; ROW_WORDS],
+            yes: true,
+            d: 0,
+            set: [0; ROW_WORDS],
+        },
     }
 }
 
@@ -99,8 +101,8 @@ fn decide(work: &mut [u64], p: Prepared, l: usize, n: usize) -> Reply
     requires { Ready p × (1 ≤ l) × (l ≤ p.bits) × (n ≤ most_bits + 1) × (work_words ≤ length work.old) }
     ensures { Decided (machine_of p) l n work.old result work.new }
 {
-    let d = search(work, p, l, n);
-    let reply = reply_of(work, n, d);
+    let found = search(work, p, l, n);
+    let reply = reply_of(work, found);
     elimination::clear_words(work, 0, WORK_WORDS);
     reply
 }

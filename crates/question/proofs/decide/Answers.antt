@@ -1,13 +1,13 @@
 -- `question::decide` meets its contract.
+use Rattle.std.proofs.Common.{arith}
 use Rattle.question.proofs.Laws.{decided}
-use native.Mathlib.Omega.{arith}
 use Rattle.question.proofs.decide.Goals as goal
 
-pub search-d-requires : goal.search-d-requires
-search-d-requires c = (c.requires.0, c.requires.1, c.requires.2, omega arith, omega (arith, c.requires.3, c.requires.4))
+pub search-found-requires : goal.search-found-requires
+search-found-requires c = (c.requires.0, c.requires.1, c.requires.2, omega arith, omega (arith, c.requires.3, c.requires.4))
 
 pub reply_of-reply-requires : goal.reply_of-reply-requires
-reply_of-reply-requires c = omega (arith, c.requires.3, c.requires.4, c.search-d.ensures.long)
+reply_of-reply-requires c = λ d e. let x = rw e at c.search-found.ensures.outcome in omega (arith, x.place, c.requires.3, c.requires.4, c.search-found.ensures.long)
 
 pub returns : goal.returns
-returns c = decided _ _ _ c.requires.3 _ _ _ c.search-d.ensures _ c.reply_of-reply.ensures _ c.clear_words.ensures
+returns c = decided _ _ _ c.requires.3 _ _ _ _ c.clear_words.ensures c.search-found.result c.search-found.ensures c.reply_of-reply.ensures
