@@ -1,9 +1,9 @@
 -- Rows in a buffer: got, put and kept.
-use mathlib.Core.Path.{◌≡◌, refl, sym, ap, ◌∙◌}
+use mathlib.Core.Path.{◌≡◌, sym, ap, ◌∙◌}
 use mathlib.Core.List.{List}
 use mathlib.Core.Logic.{by_cases}
 use native.Mathlib.Decide.{dec_lt}
-use Prim.Native.Nat.{ℕ, ◌+◌, ◌*◌, ◌/◌, ◌%◌, ◌≤◌, ◌<◌}
+use Prim.Native.Nat.{ℕ, ◌+◌, ◌*◌, ◌-◌, ◌/◌, ◌%◌, ◌≤◌, ◌<◌}
 use native.Mathlib.Omega.{arith}
 use lib.ListN.{length, get_or, get_or-eq_default}
 use borrow.Author.Tests.{lt-ltb, le-ltb}
@@ -17,7 +17,10 @@ use Rattle.document.specs.Basis.{row}
 use Rattle.rows.specs.Theorems.{RowOf, row_same}
 use Rattle.elimination.specs.Words.{Written}
 use Rattle.elimination.proofs.RowBits.{bits_same}
-use Rattle.filling.specs.Rows.{stride, state_row, Stands, Filled}
+use Rattle.running.specs.Prepared.{machine_of}
+use Rattle.filling.specs.declared.bits.OutputBits.{OutputBits}
+use Rattle.filling.specs.Rows.{stride, state_row, Stands, StandsAll, Filled}
+use Rattle.filling.specs.Theorems.{ready-size}
 
 -- ---- rows
 
@@ -48,10 +51,14 @@ module _ (M : Machine) (l i : ℕ) where
       (λ h. x.is.clear b (omega arith) ∙ sym (rw (get_or-eq_default r 0 {n = b / 64} (omega arith)) (digit-zero (b % 64)))))
       x.is
 
--- ---- filling
+-- the row of one output before, as it was got
+pub before_got : (o : OutputBits) (i off : ℕ) (ws r : List ℕ) → o.l ≤ i → length r ≡ row_words
+    → ((k : ℕ) → k < row_words → get_or r k 0 ≡ get_or ws ((i - o.l) * stride + off + k) 0)
+    → StandsAll (machine_of o.generator) o.l i off ws → RowOf (machine_of o.generator) o.l (i - o.l) (bits_of r)
+before_got o i off ws r h e w x =
+    stands_got (machine_of o.generator) o.l (i - o.l) ws r _ (omega (arith, ready-size o.generator)) e w (x (i - o.l) (omega (arith, o.some)))
 
-pub filled_none : (M : Machine) (l : ℕ) (ws : List ℕ) → Filled M l 0 ws ws
-filled_none M l ws = record { long = refl; rows = λ i h. absurd (omega arith); between = λ i k h. absurd (omega arith); behind = λ j h. refl }
+-- ---- filling
 
 module _ (M : Machine) (l i : ℕ) (ws mid out s : List ℕ) (x : Filled M l i ws mid) (y : Written mid (i * stride) row_words (λ k. get_or s k 0) out) (z : RowOf M l i (bits_of s)) where
   pub filled_more : Filled M l (i + 1) ws out

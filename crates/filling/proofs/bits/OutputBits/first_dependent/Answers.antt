@@ -1,6 +1,6 @@
 use Rattle.std.proofs.Common.{◌≡◌, refl, ◌∙◌, arith}
 use Rattle.filling.proofs.Turn.{growing_none, made, growing_more, growing_last, growing_all}
-use Rattle.filling.proofs.first_dependent.Goals as goal
+use Rattle.filling.proofs.bits.OutputBits.first_dependent.Goals as goal
 
 pub loop-i-init : goal.loop-i-init
 loop-i-init c = (refl, growing_none _ _ _)
