@@ -79,7 +79,8 @@ fn lay_row(buf: &mut [u64], p: Prepared, l: usize, i: usize)
 }
 
 // The number of the first row, of the first n of the resolution l, that is a sum of those before
-// it; n if there is none. Each row is made just before it is taken, so none is made in vain.
+// it, and so how many come before it; n if there is none. A number and no Option: its only caller
+// passes k + 1 rows, of which there always is one. Each row is made just before it is taken.
 pub fn first_dependent(buf: &mut [u64], p: Prepared, l: usize, n: usize) -> usize
     requires { Ready p × (1 ≤ l) × (l ≤ p.bits) × (n * stride ≤ length buf.old) }
     ensures { FirstDependent (machine_of p) l n buf.old result buf.new }
