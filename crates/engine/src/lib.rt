@@ -7,6 +7,7 @@ ghost use Rattle.engine.specs.Answers.{LaidOut, Fits, Sized, Roomy, Eliminates, 
 
 use elimination::Layout;
 
+// C has no Option: a number answers for bad sizes, and the number of the rows for no row found.
 const BAD: usize = usize::MAX;
 
 // The layout of these sizes, if they are those of one and `rows` rows of it fit n words.

@@ -1,4 +1,4 @@
-// Rows of output bits, made one from another in a lent buffer.
+// Rows of output bits, made one from another in a lent buffer, so that loops go over them by number.
 #![tactic(auto)]
 
 ghost use Rattle.std.specs.Prelude.{◌≡◌, ℕ, ◌+◌, ◌<◌, ◌≤◌, length, get_or};

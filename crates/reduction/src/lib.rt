@@ -1,4 +1,5 @@
-// Reduced row echelon form in place, and the rows moved to the front of their buffer.
+// Reduced row echelon form in place, and the rows moved to the front of their buffer. Loops go over
+// rows and columns by number, since each turn reads one row and writes another of the same buffer.
 #![tactic(auto)]
 
 ghost use Rattle.std.specs.Prelude.{◌≡◌, ℕ, ◌+◌, ◌*◌, ◌/◌, ◌<◌, ◌≤◌, length};
