@@ -12,7 +12,7 @@ const MOST_INPUT: usize = 66;
 fn main(rt: HostRuntime) {
     let mut input = [0u8; MOST_INPUT];
     let mut text = [0u8; MOST_TEXT];
-    let n = read_full(&mut rt.reader(), &mut input);
+    let n = read_full(&mut rt.stdin(), &mut input);
     let end = listing_text::listing(&input[..n], &mut text);
     let _ = rt.write_all(&text[..end]);
 }
