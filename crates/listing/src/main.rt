@@ -17,7 +17,8 @@ fn main(rt: HostRuntime) {
     let _ = rt.write_all(&text[..end]);
 }
 
-// Reads until the buffer is full, the input ends or a read fails; gives how many bytes were read.
+// Reads until the buffer is full, the input ends or a read fails; gives how many bytes were read, which `read_exact` doesn't say of a
+// short input, and `read_to_end` needs the heap.
 fn read_full<R: Read>(input: &mut R, buf: &mut [u8]) -> usize
     ensures { result ≤ length buf.new }
 {
