@@ -33,7 +33,7 @@ impl From<u8> for Asked {
 
 fn main(rt: HostRuntime) {
     let mut work = [0u64; WORK_WORDS];
-    for entry in Records::<_, RECORD_BYTES>::new(rt.reader()) {
+    for entry in Records::<_, RECORD_BYTES>::new(rt.stdin()) {
         let _ = show(&rt, &entry, &mut work);
     }
 }

@@ -50,7 +50,7 @@ impl Lent {
 }
 
 fn main(rt: HostRuntime) {
-    for entry in Records::<_, RECORD_BYTES>::new(rt.reader()) {
+    for entry in Records::<_, RECORD_BYTES>::new(rt.stdin()) {
         let _ = show(&rt, &entry);
     }
 }

@@ -12,7 +12,7 @@ const RECORD_BYTES: usize = 131;
 const MOST_OUTPUTS: usize = 40;
 
 fn main(rt: HostRuntime) {
-    for entry in Records::<_, RECORD_BYTES>::new(rt.reader()) {
+    for entry in Records::<_, RECORD_BYTES>::new(rt.stdin()) {
         let _ = show(&rt, &entry);
     }
 }

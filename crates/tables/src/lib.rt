@@ -23,6 +23,7 @@ pub fn yes(first: &[usize; MOST_OUTPUT], t: Dimension, l: Resolution) -> bool
 }
 
 // Entry n - 1: the largest number from the most down that gets a yes, or 0; zero past the last entry.
+// Two loops in one function, and a store for each entry: document 01 asks for a labelled break and an array filled entry by entry.
 fn table<A: Axis, const N: usize>(first: &[usize; MOST_OUTPUT], sizes: Sizes) -> [u32; N]
     requires { A.count sizes ≤ N }
     ensures { Entries N (A.count sizes) (λ n. largest (A.answer first.now n) (A.most sizes n)) result }
