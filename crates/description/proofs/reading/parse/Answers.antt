@@ -30,3 +30,7 @@ returns-clause-number c =
     let (some, q) = first_some c.args.bytes.now _ c.in-Some.ensures.value in
     read_range c.args.bytes.now some (kind_inside _ _ (c.in_ok-try_from.ensures ∙ q)) _ (c.if-bytes-length_of.false ∙ rw q at c.length_of.ensures)
     (c.in_ok-range_refusal.ensures ∙ ap range_refusal c.fields_of-g.ensures)
+
+-- answered, so that an edit of the fields is refused for them
+pub returns-clause-accepted : goal.returns-clause-accepted
+returns-clause-accepted c = c.fields_of-g.ensures
