@@ -9,7 +9,7 @@ ghost use Rattle.arguments.specs.Promises.{SizedAs, size_reply_of};
 use document::{Fields, Kind, Refusal};
 use fields::field_refusal;
 
-// The state bits of a generator; a refusal is a number above 0, with k = 0.
+// The state bits of a generator; a refusal is a number above 0, with k = 0. A struct still: the theorem `sizes_agree` speaks of it.
 #[repr(C)]
 #[derive(Clone, Copy)]
 pub struct SizeReply {

@@ -11,7 +11,7 @@ use crate::writing::length_of;
 use document::{Fields, Kind, Refusal};
 use fields::range_refusal;
 
-// The answer of a reading: 0 and the fields, or a refusal and no fields.
+// The answer of a reading: 0 and the fields, or a refusal and no fields. C gets this struct, so the number stays beside the fields.
 #[repr(C)]
 #[derive(Clone, Copy)]
 pub struct Reading {

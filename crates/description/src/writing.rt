@@ -125,7 +125,7 @@ fn written(g: Fields, out: &mut [u8]) -> Result<(), Refusal>
     Ok(())
 }
 
-// The same, with the refusal as its number.
+// The same, with the refusal as its number, which C gets.
 pub fn write(g: Fields, out: &mut [u8]) -> u32
     ensures { WrittenAs g out.old result out.new }
 {

@@ -32,6 +32,7 @@ pub struct Resolution(pub usize);
 #[repr(C)]
 #[derive(Clone, Copy)]
 pub struct Fields {
+    // A byte still, since C fills this struct: `Kind::try_from` says which kind it names.
     pub kind: u8,
     // Kind 1: state bits and steps between outputs.
     pub k: u16,

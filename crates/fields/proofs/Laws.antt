@@ -1,6 +1,7 @@
--- A field tested against zero, a search over a range of numbers, and a number below every power of two that is past its word.
-use Rattle.std.specs.Prelude.{◌≡◌, Bool, true, false, not, ◌&&◌, ℕ, zero, suc, ◌+◌, ◌-◌, ◌^◌, ◌≤◌, ◌<◌, eqb, ltb}
+-- A field tested against zero, one test written as the other's opposite, a search over a range of numbers, and a number below every power of two that is past its word.
+use Rattle.std.specs.Prelude.{◌≡◌, Bool, true, false, not, ◌&&◌, ℕ, zero, suc, ◌+◌, ◌-◌, ◌^◌, ◌≤◌, ◌<◌, eqb, ltb, leb}
 use Rattle.std.proofs.Common.{refl, sym, ap, ◌∙◌, true≢false, arith, ne_eqb, lt-ltb, le-ltb, pow_mono}
+use Rattle.std.proofs.lemmas.Bool.{lt-leb, le-leb}
 use Rattle.std.specs.List.{list_any, range_with_len}
 use Rattle.std.proofs.Math.Logic.{by_cases}
 use Rattle.std.proofs.Math.Decide.{dec_lt, ℕ_discrete}
@@ -11,6 +12,10 @@ use Rattle.document.specs.Ranges.{or-none, any_none, none_any}
 pub nonzero_test : (n : ℕ) → not (eqb n 0) ≡ nonzero n
 nonzero_test zero = refl
 nonzero_test (suc n) = ap not (ne_eqb (suc n) 0 (λ e. omega arith))
+
+-- `<=` is what `<` the other way round is not
+pub le_not_lt : (m n : ℕ) → leb m n ≡ not (ltb n m)
+le_not_lt m n = by_cases (dec_lt n m) (λ h. lt-leb m n h ∙ sym (ap not (lt-ltb n m h))) (λ h. let l : m ≤ n = omega arith in le-leb m n l ∙ sym (ap not (le-ltb n m l)))
 
 -- a number of 32 bits is below every higher power
 pub small_below : (x w : ℕ) → x < 2 ^ 32 → 32 ≤ w → ltb x (2 ^ w) ≡ true

@@ -33,7 +33,7 @@ fn bad_twist(g: Fields) -> bool
 }
 
 // Is k, r, w, r·w, m or p out of range?
-#[tactic(auto, using(document::proofs::Columns::in_column), unfolding(document::specs::Refusals::bad_size))]
+#[tactic(auto, using(document::proofs::Columns::in_column, crate::proofs::Laws::le_not_lt), unfolding(document::specs::Refusals::bad_size))]
 pub fn bad_size(g: Fields) -> bool
     ensures { result ≡ bad_size g }
 {

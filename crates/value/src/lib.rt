@@ -13,7 +13,7 @@ ghost use Rattle.value.specs.Promises.{ValuedAs, valued_of};
 use document::{MOST_OUTPUT, Refusal};
 use fields::outside;
 
-// The answer: 0 and the value, or a refusal and zero.
+// The answer: 0 and the value, or a refusal and zero. C gets this struct, so the number stays beside the value.
 #[repr(C)]
 #[derive(Clone, Copy)]
 pub struct Valued {

@@ -1,16 +1,13 @@
 -- The fields' chain, and where that gives none, the pair's.
 use Rattle.std.proofs.Common.{refl, sym, ap₂, ◌∙◌}
-use Rattle.std.proofs.lemmas.Result.{err_from_is_err_and}
-use Rattle.document.proofs.Refused.{refused}
+use Rattle.document.proofs.Refused.{refused_first}
 use Rattle.document.proofs.Theorems.{ranges}
 use Rattle.document.specs.Refusals.{lowest, pair_cases}
-use Rattle.document.specs.Lowest.{fields_first, fields_then}
+use Rattle.document.specs.Lowest.{fields_then}
 use Rattle.arguments.proofs.asked.asked_refusal.Goals as goal
 
 pub returns-in_err-field_refusal : goal.returns-in_err-field_refusal
-returns-in_err-field_refusal c =
-    let p = err_from_is_err_and c.from_residual.result c.from_residual.ensures.1 in
-    rw (p.1, p.2) (fields_first _ _ _ c.in_err-field_refusal.ensures (refused _))
+returns-in_err-field_refusal c = refused_first _ _ _ _ c.from_residual.ensures c.in_err-field_refusal.ensures
 
 pub size-requires : goal.size-requires
 size-requires c = ranges _ (sym c.in_ok-field_refusal.ensures)
