@@ -12,7 +12,7 @@ pub fn step_backed(p: Tausworthe, row: [u64; ROW_WORDS]) -> [u64; ROW_WORDS]
     ensures { StepsBack p.k p.mask 1 row result }
 {
     let r = states::shifted_up(row, 1, 0);
-    if states::bit_at(row, p.k - 1) {
+    if states::bit_at(&row, p.k - 1) {
         states::added(r, p.mask)
     } else {
         r

@@ -31,7 +31,7 @@ impl Rows for Twister {
         let w = self.w;
         let dead = self.p;
         let n = w - dead;
-        let y = states::word_at(row, 0, w);
+        let y = states::word_at(&row, 0, w);
         let z = words::untwisted(w, self.a, y);
         let d = states::placed(states::lowered(row, w), (r - self.m - 1) * w, w, y);
         let e = states::placed(d, (r - 1) * w, n, words::low(z, n));

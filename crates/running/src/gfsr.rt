@@ -15,8 +15,8 @@ impl Gfsr {
     {
         let mut x = 0;
         for i in 0..self.r {
-            if states::bit_at(self.mask, i) {
-                x ^= states::word_at(s, i * self.w, self.w);
+            if states::bit_at(&self.mask, i) {
+                x ^= states::word_at(&s, i * self.w, self.w);
             }
         }
         x
@@ -41,6 +41,6 @@ impl Runs for Gfsr {
 
     // The output: the leading bits of the first word.
     fn output(self, s: [u64; ROW_WORDS]) -> u32 {
-        number(states::word_at(s, 0, self.bits), self.bits)
+        number(states::word_at(&s, 0, self.bits), self.bits)
     }
 }

@@ -40,7 +40,7 @@ pub fn tap_mask(k: usize, c: [u64; ROW_WORDS]) -> [u64; ROW_WORDS]
     let mut mask = states::flipped([0; ROW_WORDS], k);
     for i in 0..k {
         // In two steps, as above; and a fold's closure would have to be told that i is below k.
-        let next = states::placed(mask, k - 1 - i, 1, states::word_at(c, i, 1));
+        let next = states::placed(mask, k - 1 - i, 1, states::word_at(&c, i, 1));
         mask = next;
     }
     mask

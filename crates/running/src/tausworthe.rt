@@ -24,7 +24,7 @@ impl Tausworthe {
         requires { self.bits ≤ self.k }
         ensures { result ≡ number_of self.bits ((machine1 self).out (bits_of s)) }
     {
-        number(states::word_at(s, 0, self.bits), self.bits)
+        number(states::word_at(&s, 0, self.bits), self.bits)
     }
 
     // The output where the recurrence goes on: the first bit of each of L states in a row.

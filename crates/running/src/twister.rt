@@ -16,9 +16,9 @@ impl Twister {
     {
         let r = self.r;
         let w = self.w;
-        let x = states::word_at(s, (r - 1) * w, w);
-        let y = states::word_at(s, (r - 2) * w, w);
-        let z = states::word_at(s, (r - self.m - 1) * w, w);
+        let x = states::word_at(&s, (r - 1) * w, w);
+        let y = states::word_at(&s, (r - 2) * w, w);
+        let z = states::word_at(&s, (r - self.m - 1) * w, w);
         z ^ words::twisted(w, self.a, words::joined(w, w - self.p, x, y))
     }
 
@@ -27,7 +27,7 @@ impl Twister {
         ensures { Holds self.w (temper4 self.w self.u self.s (digit self.b) self.t (digit self.c) self.v (word self.w 0 (bits_of s))) result }
     {
         let w = self.w;
-        let x = words::add_right(w, self.u, states::word_at(s, 0, w));
+        let x = words::add_right(w, self.u, states::word_at(&s, 0, w));
         let y = words::add_left(w, self.s, self.b, x);
         words::add_right(w, self.v, words::add_left(w, self.t, self.c, y))
     }

@@ -17,9 +17,9 @@ pub mod words;
 pub use past::late_bit;
 
 // The w bits of the state from position pos on.
-pub fn word_at(s: [u64; ROW_WORDS], pos: usize, w: usize) -> u64
+pub fn word_at(s: &[u64; ROW_WORDS], pos: usize, w: usize) -> u64
     requires { (pos + w ≤ state_bits) × (1 ≤ w) × (w ≤ 32) }
-    ensures { Holds w (λ j. bits_of s (pos + j)) result }
+    ensures { Holds w (λ j. bits_of s.now (pos + j)) result }
 {
     let i = pos / 64;
     let o = pos % 64;
@@ -101,9 +101,9 @@ pub fn parity(a: [u64; ROW_WORDS], b: [u64; ROW_WORDS]) -> bool
 }
 
 // Bit i of the state.
-pub fn bit_at(s: [u64; ROW_WORDS], i: usize) -> bool
+pub fn bit_at(s: &[u64; ROW_WORDS], i: usize) -> bool
     requires { i < state_bits }
-    ensures { result ≡ bits_of s i }
+    ensures { result ≡ bits_of s.now i }
 {
     (s[i / 64] >> (i % 64)) % 2 == 1
 }

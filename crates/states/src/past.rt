@@ -9,5 +9,5 @@ use document::ROW_WORDS;
 pub fn late_bit(k: usize, state: [u64; ROW_WORDS]) -> bool
     ensures { result ≡ late_bit k state }
 {
-    (k..64 * ROW_WORDS).any(|i| bit_at(state, i))
+    (k..64 * ROW_WORDS).any(|i| bit_at(&state, i))
 }

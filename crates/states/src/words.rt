@@ -84,6 +84,7 @@ fn exchanged(x: u64, m: u64, d: usize) -> u64
 }
 
 // The n low bits of x the other way round.
+#[tactic(auto, unfolding(digits::specs::Def::digit))]
 pub fn mirrored(x: u64, n: usize) -> u64
     requires { (x < 2 ^ 32) × (n ≤ 32) }
     ensures { Holds n (word_of n x) result }
