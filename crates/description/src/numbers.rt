@@ -5,6 +5,8 @@ ghost use Rattle.document.specs.Description.{number};
 
 use document::COEFFICIENT_BYTES;
 
+// Two functions, for two bytes and for four: `from_be_bytes` belongs to no trait that one generic function could name.
+
 // The number in the two bytes from `at` on.
 #[tactic(auto, unfolding(document::specs::Description::number))]
 pub fn number2(bytes: &[u8], at: usize) -> u16

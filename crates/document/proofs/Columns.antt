@@ -9,6 +9,8 @@ use Rattle.document.specs.Generator.{by_kind}
 use Rattle.document.specs.Answer.{Names, kind_number, column}
 use Rattle.document.specs.Refusals.{outside}
 use Rattle.document.specs.Ranges.{is_other}
+use Rattle.std.proofs.Common.{◌≤◌}
+use Rattle.std.proofs.Math.Decide.{ℕ_discrete}
 
 named : (kind : Kind) → kind ≡ column (kind_number kind)
 unfolding by_kind
@@ -60,3 +62,14 @@ kind_inside byte kind e = ap (outside 1 4) (sym e) ∙ inside kind
     inside Gfsr = refl
     inside Twisted = refl
     inside Mersenne = refl
+
+-- a byte that is 1 to 4 names the kind that it goes by
+pub of_kind : (byte : ℕ) (kind : Kind) → kind ≡ column byte → 1 ≤ byte → byte ≤ 4 → byte ≡ kind_number kind
+unfolding by_kind
+of_kind byte kind e low high = number (ℕ_discrete byte 1) (ℕ_discrete byte 2) (ℕ_discrete byte 3) ∙ sym (ap kind_number e)
+  where
+    number : Dec (byte ≡ 1) → Dec (byte ≡ 2) → Dec (byte ≡ 3) → byte ≡ kind_number (column byte)
+    number (yes p) _ _ = rw p refl
+    number (no _) (yes p) _ = rw p refl
+    number (no _) (no _) (yes p) = rw p refl
+    number (no p) (no q) (no r) = let h : byte ≡ 4 = omega (arith, p, q, r) in rw h refl
