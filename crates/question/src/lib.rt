@@ -45,12 +45,16 @@ impl From<Result<Option<Dependent>, Refusal>> for Reply {
                 d: 0,
                 set: [0; ROW_WORDS],
             },
-            Ok(Some(first)) => Reply {
-                refusal: 0,
-                yes: false,
-                d: first.d,
-                set: first.set,
-            },
+            Ok(Some(first)) => {
+                // In two steps: the checker covers no literal with a field that is another struct's array.
+                let set = first.set;
+                Reply {
+                    refusal: 0,
+                    yes: false,
+                    d: first.d,
+                    set,
+                }
+            }
             Err(refusal) => Reply {
                 refusal: u32::from(refusal),
                 yes: false,
@@ -97,7 +101,7 @@ fn search(work: &mut [u64], bits: OutputBits, n: usize) -> Option<usize>
 }
 
 // The set that the row found carries.
-fn dependent(work: &[u64], found: Option<usize>) -> Option<Dependent>
+fn carried_set(work: &[u64], found: Option<usize>) -> Option<Dependent>
     requires { IfSome found (λ d. d * stride + stride ≤ length work.now) }
     ensures { Gives work.now found result }
 {
@@ -114,13 +118,18 @@ fn decide(work: &mut [u64], bits: OutputBits, n: usize) -> Option<Dependent>
     ensures { Decided (machine_of bits.generator) bits.l n work.old result work.new }
 {
     let found = search(work, bits, n);
-    let first = dependent(work, found);
+    let first = carried_set(work, found);
     elimination::clear_words(work, 0, WORK_WORDS);
     first
 }
 
 // The first dependent set of t·l output bits, if there is one, or what refuses the question.
-fn answer(g: Fields, t: Dimension, l: Resolution, work: &mut [u64]) -> Result<Option<Dependent>, Refusal>
+fn answer(
+    g: Fields,
+    t: Dimension,
+    l: Resolution,
+    work: &mut [u64],
+) -> Result<Option<Dependent>, Refusal>
     ensures { Asked g t l work.old (reply_of result) work.new }
 {
     let bits = admitted(g, t, l, work.len())?;
