@@ -8,6 +8,7 @@ ghost use Rattle.elimination.specs.Words.{Written};
 use document::ROW_WORDS;
 use elimination::Layout;
 
+mod asked;
 mod bits;
 
 pub use bits::OutputBits;
