@@ -1,19 +1,28 @@
 // The cases that several calls share, over plain numbers.
 ghost use Rattle.std.specs.Prelude.{◌≡◌};
 ghost use Rattle.document.specs.Answer.{refusal_of};
-ghost use Rattle.document.specs.Refusals.{lowest, pair_cases, state_cases, room_cases};
+ghost use Rattle.document.specs.Refusals.{lowest, dimension_cases, pair_cases, state_cases, room_cases};
 
 use document::{Dimension, ROW_WORDS, Refusal, Resolution};
 use fields::outside;
+
+// What refuses t, for k state bits.
+#[tactic(auto, unfolding(document::specs::Refusals::lowest))]
+pub fn dimension_refusal(k: usize, t: Dimension) -> Result<(), Refusal>
+    ensures { refusal_of result ≡ lowest (dimension_cases k t.0) }
+{
+    if outside(1, k, t.0) {
+        return Err(Refusal::Dimension);
+    }
+    Ok(())
+}
 
 // What refuses t and l, for k state bits and outputs of `bits` bits.
 #[tactic(auto, unfolding(document::specs::Refusals::lowest))]
 pub fn pair_refusal(k: usize, bits: usize, t: Dimension, l: Resolution) -> Result<(), Refusal>
     ensures { refusal_of result ≡ lowest (pair_cases k bits t.0 l.0) }
 {
-    if outside(1, k, t.0) {
-        return Err(Refusal::Dimension);
-    }
+    dimension_refusal(k, t)?;
     if outside(1, bits, l.0) {
         return Err(Refusal::Resolution);
     }
