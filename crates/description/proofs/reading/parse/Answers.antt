@@ -1,4 +1,4 @@
-use Rattle.std.proofs.Common.{sym, ap, ◌∙◌}
+use Rattle.std.proofs.Common.{◌≡◌, sym, ap, ◌∙◌, length}
 use Rattle.document.proofs.Refused.{passed_on}
 use Rattle.document.proofs.Columns.{kind_inside}
 use Rattle.document.specs.Refusals.{range_refusal}
@@ -16,7 +16,8 @@ returns-in_err-try_from-clause-number c =
 pub returns-then-bytes-length_of-clause-number : goal.returns-then-bytes-length_of-clause-number
 returns-then-bytes-length_of-clause-number c =
     let (some, q) = first_some c.args.bytes.now _ c.in-Some.ensures.value in
-    read_length c.args.bytes.now some (kind_inside _ _ (c.in_ok-try_from.ensures ∙ q)) (λ e. c.if-bytes-length_of.true (e ∙ sym (rw q at c.length_of.ensures)))
+    let other : length c.args.bytes.now ≡ c.length_of.result → ⊥ = c.if-bytes-length_of.true in
+    read_length c.args.bytes.now some (kind_inside _ _ (c.in_ok-try_from.ensures ∙ q)) (λ e. other (e ∙ sym (rw q at c.length_of.ensures)))
 
 pub returns-in_err-range_refusal-clause-number : goal.returns-in_err-range_refusal-clause-number
 returns-in_err-range_refusal-clause-number c =
