@@ -63,8 +63,9 @@ fn reduced_rows(work: &mut [u64], bits: OutputBits, n: usize) -> usize
     requires { (n ≤ most_bits) × (work_words ≤ length work.old) }
     ensures { Based (machine_of bits.generator) bits.l n work.old result work.new }
 {
+    let k = bits.generator.size();
     bits.fill(work, n);
-    let rank = reduction::reduce(work, n, LAYOUT, bits.generator.size());
+    let rank = reduction::reduce(work, n, LAYOUT, k);
     reduction::pack(work, rank, LAYOUT, WORK_WORDS);
     rank
 }

@@ -1,5 +1,5 @@
 -- From rows in a buffer to the answer: the first dependent set of rows is that of the output bits, and more rows than the state has bits are never all independent.
-use Rattle.std.specs.Prelude.{◌≡◌, refl, Bool, true, false, ◌&&◌, List, ℕ, zero, suc, ◌+◌, ◌*◌, ◌/◌, ◌%◌, ◌^◌, ◌≤◌, ◌<◌, length, get_or, replicate, Option, Some, None, IfSome, Ok, Err}
+use Rattle.std.specs.Prelude.{◌≡◌, refl, Bool, true, false, ◌&&◌, List, ℕ, zero, suc, ◌+◌, ◌*◌, ◌/◌, ◌%◌, ◌^◌, ◌≤◌, ◌<◌, length, get_or, replicate, Option, Some, None, Ok, Err}
 use Rattle.std.proofs.Common.{sym, ap, ◌∙◌, true≢false, arith, zero-add, lit<}
 use Rattle.std.proofs.Math.ListN.{get_or-eq_default}
 use Rattle.std.proofs.Math.Logic.{by_cases}
@@ -117,11 +117,6 @@ first_same M l n d S T f e x = record {
       last = e d (omega arith) ∙ y.last;
       cancels = λ i g. xorsum_cong (suc d) _ _ (λ p q. ap (λ b. b && state_row M l p i) (e p (omega arith))) ∙ y.cancels i g;
     }
-
--- the row found has room for its set
-pub roomy : (M : Machine) (l n : ℕ) (was mid : List ℕ) (found : Option ℕ) → n * stride ≤ length was → Searched M l n was found mid → IfSome found (λ d. d * stride + stride ≤ length mid)
-roomy M l n was mid (Some d) h x = omega (arith, h, x.long, x.cases.place)
-roomy M l n was mid None h x = tt
 
 module _ (M : Machine) (l n : ℕ) (few : n ≤ most_bits + 1) (was mid : List ℕ) where
   -- the set that a row carries, copied
