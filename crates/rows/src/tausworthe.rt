@@ -7,7 +7,7 @@ use document::ROW_WORDS;
 use running::Tausworthe;
 
 // The row before one step.
-pub fn step_backed(p: Tausworthe, row: [u64; ROW_WORDS]) -> [u64; ROW_WORDS]
+fn step_backed(p: Tausworthe, row: [u64; ROW_WORDS]) -> [u64; ROW_WORDS]
     requires { Clear p.k (bits_of row) }
     ensures { StepsBack p.k p.mask 1 row result }
 {
@@ -20,7 +20,7 @@ pub fn step_backed(p: Tausworthe, row: [u64; ROW_WORDS]) -> [u64; ROW_WORDS]
 }
 
 // The row before n steps.
-pub fn steps_backed(p: Tausworthe, n: usize, row: [u64; ROW_WORDS]) -> [u64; ROW_WORDS]
+fn steps_backed(p: Tausworthe, n: usize, row: [u64; ROW_WORDS]) -> [u64; ROW_WORDS]
     requires { Clear p.k (bits_of row) }
     ensures { StepsBack p.k p.mask n row result }
 {

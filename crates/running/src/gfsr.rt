@@ -10,7 +10,7 @@ use document::ROW_WORDS;
 
 impl Gfsr {
     // The new word: the sum of those words that have their coefficient.
-    pub fn next(self, s: [u64; ROW_WORDS]) -> u64
+    fn next(self, s: [u64; ROW_WORDS]) -> u64
         ensures { Holds self.w (next2 self.r self.w (bits_of self.mask) (bits_of s)) result }
     {
         let mut x = 0;

@@ -11,7 +11,7 @@ ghost use Rattle.running.specs.Prepared.{PreparedFor, machine_of};
 use document::{Fields, ROW_WORDS};
 
 mod gfsr;
-pub mod preparing;
+mod preparing;
 mod ready;
 mod tausworthe;
 mod twister;

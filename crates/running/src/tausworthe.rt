@@ -8,7 +8,7 @@ use document::ROW_WORDS;
 
 impl Tausworthe {
     // One step. The parity is the new bit plus the bit that moves down to k - 1, so that flipping leaves the new bit there.
-    pub fn stepped(self, s: [u64; ROW_WORDS]) -> [u64; ROW_WORDS]
+    fn stepped(self, s: [u64; ROW_WORDS]) -> [u64; ROW_WORDS]
         ensures { Stepped self.k self.mask 1 s result }
     {
         let r = states::lowered(s, 1);

@@ -1,4 +1,5 @@
-// States, and rows of state bits, in words of 64 bits by value: bit i is worth 2^(i mod 64) in word i div 64.
+// States, and rows of state bits, in words of 64 bits: bit i is worth 2^(i mod 64) in word i div 64. They are plain arrays, since the
+// calls and the C structs above take them so, and a type round the array would only be put on and taken off at each.
 #![tactic(auto)]
 
 ghost use Rattle.std.specs.Prelude.{◌≡◌, ◌&&◌, ℕ, ◌+◌, ◌*◌, ◌<◌, ◌≤◌, ◌^◌};
@@ -16,7 +17,7 @@ pub mod words;
 
 pub use past::late_bit;
 
-// The w bits of the state from position pos on.
+// The w bits of the state from position pos on. The state is lent: a copy would be laid in memory at each call, to be indexed.
 pub fn word_at(s: &[u64; ROW_WORDS], pos: usize, w: usize) -> u64
     requires { (pos + w ≤ state_bits) × (1 ≤ w) × (w ≤ 32) }
     ensures { Holds w (λ j. bits_of s.now (pos + j)) result }
