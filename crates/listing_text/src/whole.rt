@@ -1,11 +1,12 @@
 // The whole text of a report.
 ghost use Rattle.std.specs.Prelude.{◌≡◌, ℕ, ◌+◌, ◌-◌, ◌*◌, ◌<◌, ◌≤◌, length, get_or};
-ghost use Rattle.listing_text.specs.Text.{most_number, line_bytes, lines_to, row_line, refused_line, page_of, most_text};
+ghost use Rattle.document.specs.Answer.{refusal_number};
+ghost use Rattle.listing_text.specs.Text.{line_bytes, lines_to, row_line, refused_line, page_of, most_text};
 ghost use Rattle.listing_text.specs.Listing.{Printable};
 ghost use Rattle.listing_text.specs.Wrote.{Wrote, Added};
 
 use crate::page::Page;
-use document::{Dimension, MOST_BITS, MOST_OUTPUT, Resolution};
+use document::{Dimension, MOST_BITS, MOST_OUTPUT, Refusal, Resolution};
 use report::Report;
 use tables::{Axis, Sizes, gap};
 
@@ -45,11 +46,12 @@ pub fn put_page(out: &mut [u8], sizes: Sizes, r: &Report) -> usize
 }
 
 // The line of a refusal, at the front of the buffer, and its length.
-pub fn put_refused(out: &mut [u8], refusal: u32) -> usize
-    requires { (refusal < most_number) × (line_bytes ≤ length out.old) }
-    ensures { Wrote line_bytes out.old 0 (refused_line refusal) out.new result }
+#[tactic(auto, using(crate::proofs::Text::number_small))]
+pub fn put_refused(out: &mut [u8], refusal: Refusal) -> usize
+    requires { line_bytes ≤ length out.old }
+    ensures { Wrote line_bytes out.old 0 (refused_line (refusal_number refusal)) out.new result }
 {
     let mut page = Page { out, end: 0 };
-    page.refused(refusal);
+    page.refused(u32::from(refusal));
     page.end
 }
