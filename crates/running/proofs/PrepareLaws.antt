@@ -8,7 +8,10 @@ use Rattle.kinds.specs.Transpose.{taps}
 use Rattle.kinds.specs.Adjoint.{taps_at, taps_past}
 use Rattle.document.specs.Limits.{most_bits}
 use Rattle.document.specs.declared.Fields.{Fields}
-use Rattle.document.specs.Ranges.{WordRanges}
+use Rattle.document.specs.declared.kind.Kind.{Kind}
+use Rattle.document.specs.Answer.{kind_number, column}
+use Rattle.document.specs.Ranges.{WordRanges, Accepted}
+use Rattle.document.proofs.Columns.{of_kind}
 use Rattle.running.specs.Ranges.{Mask, Words}
 
 pub mask_is : (k : ℕ) (mask : List ℕ) (a : Word) → 1 ≤ k → k ≤ most_bits → ((i : ℕ) → bits_of mask i ≡ taps k a i) → Mask k mask
@@ -23,3 +26,7 @@ words_are g r w L x e f h = record {
   least = omega (arith, x.bits_least, h);
   bits = omega (arith, x.bits_most, f, h);
 }
+
+-- the kind of accepted fields is the one that their byte goes by
+pub kind_is : (g : Fields) (kind : Kind) → Accepted g → kind ≡ column g.kind → g.kind ≡ kind_number kind
+kind_is g kind x e = of_kind g.kind kind e x.kind_least x.kind_most

@@ -8,7 +8,7 @@ ghost use Rattle.document.specs.Limits.{most_output};
 ghost use Rattle.document.specs.Ranges.{Accepted};
 ghost use Rattle.running.specs.Prepared.{PreparedFor, machine_of};
 
-use document::{Fields, ROW_WORDS};
+use document::{Fields, Kind, ROW_WORDS};
 
 mod gfsr;
 mod preparing;
@@ -88,10 +88,10 @@ pub fn prepare(g: Fields) -> Prepared
     requires { Accepted g }
     ensures { PreparedFor g result }
 {
-    match g.kind {
-        1 => Prepared::Tausworthe(preparing::of_tausworthe(g)),
-        2 => Prepared::Gfsr(preparing::of_gfsr(g)),
-        3 => Prepared::Twister(preparing::of_twisted(g)),
-        _ => Prepared::Twister(preparing::of_twister(g)),
+    match Kind::column(g.kind) {
+        Kind::Tausworthe => Prepared::Tausworthe(preparing::of_tausworthe(g)),
+        Kind::Gfsr => Prepared::Gfsr(preparing::of_gfsr(g)),
+        Kind::Twisted => Prepared::Twister(preparing::of_twisted(g)),
+        Kind::Mersenne => Prepared::Twister(preparing::of_twister(g)),
     }
 }
