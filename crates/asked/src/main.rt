@@ -39,11 +39,10 @@ fn main(rt: HostRuntime) {
 }
 
 fn show(rt: &impl Print, entry: &[u8; RECORD_BYTES], work: &mut [u64]) -> io::Result<()> {
-    let reading = description::read(records::description(entry));
-    if reading.refusal != 0 {
-        return println!(rt; "refused {}", reading.refusal);
-    }
-    let fields = reading.fields;
+    let fields = match description::parse(records::description(entry)) {
+        Ok(fields) => fields,
+        Err(refusal) => return println!(rt; "refused {}", u32::from(refusal)),
+    };
     match Asked::from(entry[66]) {
         Asked::EveryQuestion => ask_all(rt, fields, work),
         Asked::Report => print_report(rt, &report::report(fields, work)),

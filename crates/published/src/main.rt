@@ -18,13 +18,13 @@ fn main(rt: HostRuntime) {
 }
 
 fn show(rt: &impl Print, entry: &[u8; RECORD_BYTES]) -> io::Result<()> {
-    let reading = description::read(records::description(entry));
-    if reading.refusal != 0 {
-        return refused(rt, reading.refusal);
-    }
+    let fields = match description::parse(records::description(entry)) {
+        Ok(fields) => fields,
+        Err(refusal) => return refused(rt, u32::from(refusal)),
+    };
     let t = usize::from(entry[66]).min(MOST_OUTPUTS);
     let mut out = [0u32; MOST_OUTPUTS];
-    let refusal = outputs::outputs(reading.fields, Dimension(t), state(entry), &mut out);
+    let refusal = outputs::outputs(fields, Dimension(t), state(entry), &mut out);
     if refusal != 0 {
         return refused(rt, refusal);
     }
