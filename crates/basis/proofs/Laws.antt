@@ -136,9 +136,9 @@ module _ (M : Machine) (l n rank : ℕ) (fits : M.size ≤ 64 * row_words) (few 
   }
 
 -- the same where the columns are counted by a number k that the generator gives as its size
-pub based_of : (M : Machine) (l n rank k : ℕ) → k ≡ M.size → M.size ≤ 64 * row_words → n ≤ most_bits → (was filled mid now : List ℕ) → Filled M l n was filled
+pub based_by_size : (M : Machine) (l n rank k : ℕ) → k ≡ M.size → M.size ≤ 64 * row_words → n ≤ most_bits → (was filled mid now : List ℕ) → Filled M l n was filled
     → ReducedForm filled n stride row_words k rank mid → Packed mid rank stride row_words work_words now → Based M l n was rank now
-based_of M l n rank k e fits few was filled mid now x y z = based M l n rank fits few was filled mid now x (rw e at y) z
+based_by_size M l n rank k e fits few was filled mid now x y z = based M l n rank fits few was filled mid now x (rw e at y) z
 
 -- ---- the basis of the description's machine
 
