@@ -118,7 +118,7 @@ module _ (M : Machine) (l n rank : ℕ) (fits : M.size ≤ 64 * row_words) (few 
       words : bits_from now (i * row_words) b ≡ bits_from mid (i * stride) b
       words = packed_bit z i h b f
 
-  pub based : Based M l n was rank now
+  based : Based M l n was rank now
   based = record {
     rows = λ i h. (x.rows i h).is;
     few = y.rows.few;
@@ -134,6 +134,11 @@ module _ (M : Machine) (l n rank : ℕ) (fits : M.size ≤ 64 * row_words) (few 
     zeros = λ j h k. z.zeros j (omega arith) k;
     rest = λ j h. z.behind j h ∙ y.kept.behind j (omega arith) ∙ x.behind j (omega arith);
   }
+
+-- the same where the columns are counted by a number k that the generator gives as its size
+pub based_by_size : (M : Machine) (l n rank k : ℕ) → k ≡ M.size → M.size ≤ 64 * row_words → n ≤ most_bits → (was filled mid now : List ℕ) → Filled M l n was filled
+    → ReducedForm filled n stride row_words k rank mid → Packed mid rank stride row_words work_words now → Based M l n was rank now
+based_by_size M l n rank k e fits few was filled mid now x y z = based M l n rank fits few was filled mid now x (rw e at y) z
 
 -- ---- the basis of the description's machine
 
