@@ -1,9 +1,7 @@
 -- What a report promises.
-use Rattle.std.specs.Prelude.{◌≡◌, false, List, ℕ, ◌-◌, ◌/◌, min, eqb, length, get_or, replicate, Result, Ok, Err}
+use Rattle.std.specs.Prelude.{◌≡◌, false, List, ℕ, ◌-◌, ◌/◌, min, eqb, length, get_or, replicate}
 use Rattle.kinds.specs.Generator.{Machine}
 use Rattle.document.specs.declared.Fields.{Fields}
-use Rattle.document.specs.declared.refusals.Refusal.{Refusal}
-use Rattle.document.specs.Answer.{refusal_number}
 use Rattle.document.specs.Limits.{most_bits, most_output, work_words}
 use Rattle.document.specs.Generator.{machine}
 use Rattle.document.specs.Memory.{Front}
@@ -23,11 +21,6 @@ refused_with n =
       dimension_sum = 0;
       me = false;
     }
-
--- the reply that C gets
-abbrev pub reply_of : Result Report Refusal → Report
-reply_of (Ok report) = report
-reply_of (Err refusal) = refused_with (refusal_number refusal)
 
 -- the numbers of a machine's report: 480 for each t, zero past k; 32 for each l, zero past L; the sums of the gaps; ME
 pub record ReportOf (M : Machine) (r : Report) : Type 0 where

@@ -2,7 +2,7 @@
 ghost use Rattle.std.specs.Prelude.{◌≡◌};
 ghost use Rattle.document.specs.Answer.{refusal_of};
 ghost use Rattle.document.specs.Refusals.{report_refusal};
-ghost use Rattle.report.specs.Promises.{ReportedAs, reply_of};
+ghost use Rattle.report.specs.Promises.{ReportedAs};
 
 use crate::prepared::report_of;
 use crate::reply::Report;
@@ -19,20 +19,12 @@ pub fn report_refusal(g: Fields, room: usize) -> Result<(), Refusal>
     room_refusal(WORK_WORDS, room)
 }
 
-// The report of a generator, or why there is none.
-fn checked_report(g: Fields, work: &mut [u64]) -> Result<Report, Refusal>
-    ensures { ReportedAs g work.old (reply_of result) work.new }
-{
-    report_refusal(g, work.len())?;
-    Ok(report_of(prepare(g), work))
-}
-
 // The report of a generator, made in a lent work buffer that is cleared at the end; or a refusal, and the buffer is left.
 pub fn report(g: Fields, work: &mut [u64]) -> Report
     ensures { ReportedAs g work.old result work.new }
 {
-    match checked_report(g, work) {
-        Ok(report) => report,
+    match report_refusal(g, work.len()) {
+        Ok(()) => report_of(prepare(g), work),
         Err(refusal) => Report::refused(refusal),
     }
 }
