@@ -15,7 +15,8 @@ use document::{Dimension, Fields, ROW_WORDS, Refusal, Resolution, WORK_WORDS};
 use filling::{LAYOUT, OutputBits};
 use running::Runs;
 
-// How many words of the lent buffer are the basis; a refusal is a number above 0, with none.
+// How many words of the lent buffer are the basis; a refusal is a number above 0, with none. C gets this struct, so the number stays
+// beside the words.
 #[repr(C)]
 #[derive(Clone, Copy)]
 pub struct BasisReply {
@@ -50,7 +51,7 @@ fn admitted(g: Fields, t: Dimension, l: Resolution, room: usize) -> Result<Outpu
     Ok(bits)
 }
 
-// What refuses a basis, as a number; 0 where nothing does.
+// What refuses a basis, as the number that C gets; 0 where nothing does.
 pub fn basis_check(g: Fields, t: Dimension, l: Resolution, room: usize) -> u32
     ensures { result ≡ basis_refusal g t.0 l.0 room }
 {

@@ -1,4 +1,4 @@
-// Read: any bytes to a refusal, or to the kind and the fields.
+// Read: any bytes to a refusal, or to the kind and the fields. A function for each kind, since the bodies differ in which fields stand where.
 ghost use Rattle.std.specs.Prelude.{◌≡◌, IfOk, length, get_or};
 ghost use Rattle.document.specs.Answer.{column, refusal_of};
 ghost use Rattle.document.specs.declared.kind.Kind.TheVariants.{Tausworthe, Gfsr, Twisted, Mersenne};

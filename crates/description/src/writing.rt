@@ -1,4 +1,4 @@
-// Write: the description of a generator at the front of a lent buffer.
+// Write: the description of a generator at the front of a lent buffer. A function for each layout of the body.
 ghost use Rattle.std.specs.Prelude.{◌≡◌, ◌∷◌, ◌++◌, length, drop, ◌≤◌};
 ghost use Rattle.document.specs.Answer.{column, refusal_of};
 ghost use Rattle.document.specs.declared.kind.Kind.TheVariants.{Tausworthe, Gfsr, Twisted, Mersenne};
@@ -9,7 +9,7 @@ ghost use Rattle.description.specs.Promises.{WrittenAs};
 use document::{Fields, Kind, Refusal, refusal_of};
 use fields::field_refusal;
 
-// The length of a description of this kind.
+// The length of a description of this kind; a byte and no `Kind`, since it promises a length for every byte.
 #[tactic(auto, using(document::proofs::Columns::in_column))]
 pub fn length_of(kind: u8) -> usize
     ensures { result ≡ length_of kind }

@@ -1,4 +1,4 @@
-// The whole text of a report.
+// The whole text of a report. `as u32`: the counts are known to be small, so there is no failure for a `try_from` to tell.
 ghost use Rattle.std.specs.Prelude.{◌≡◌, ℕ, ◌+◌, ◌-◌, ◌*◌, ◌<◌, ◌≤◌, length, get_or};
 ghost use Rattle.document.specs.Answer.{refusal_number};
 ghost use Rattle.listing_text.specs.Text.{line_bytes, lines_to, row_line, refused_line, page_of, most_text};

@@ -70,7 +70,7 @@ fn mixed(x: u64) -> u64 {
     f.wrapping_add(f << 31)
 }
 
-// Word i of the matrix: mixed in the first `lead` words of a row, zero behind them.
+// Word i of the matrix: mixed in the first `lead` words of a row, zero behind them. `as`: a `u64` has no `From<usize>`.
 fn entry(i: usize, shape: Shape) -> u64 {
     if i % shape.stride < shape.lead {
         mixed(mixed(i as u64))

@@ -58,7 +58,7 @@ fn run_checked(
     Ok(())
 }
 
-// The same; the number of the refusal, or 0.
+// The same; the number of the refusal, which C gets, or 0.
 pub fn outputs(g: Fields, t: Dimension, state: [u64; ROW_WORDS], out: &mut [u32]) -> u32
     ensures { RanAs g t.0 state out.old result out.new }
 {

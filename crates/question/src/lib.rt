@@ -17,7 +17,7 @@ use filling::{OutputBits, STRIDE};
 use running::Runs;
 
 // The answer to a question: yes with d = 0 and the empty set, or no with the first set, which ends
-// at d. A refusal is a number above 0, with all else 0.
+// at d. A refusal is a number above 0, with all else 0. C gets this struct, so these flags stay.
 #[repr(C)]
 #[derive(Clone, Copy)]
 pub struct Reply {

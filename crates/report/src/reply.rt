@@ -5,6 +5,7 @@ ghost use Rattle.report.specs.Promises.{refused_with};
 use document::{MOST_BITS, MOST_OUTPUT, Refusal};
 
 // Entry t - 1 of `resolutions` is l_t, entry l - 1 of `dimensions` is t_l; the sums are those of their gaps.
+// C gets this struct, so the refusal's number stays beside them.
 #[repr(C)]
 #[derive(Clone, Copy)]
 pub struct Report {

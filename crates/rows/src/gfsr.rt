@@ -13,6 +13,7 @@ impl Rows for Gfsr {
     fn backed(self, row: [u64; ROW_WORDS]) -> [u64; ROW_WORDS] {
         let y = states::word_at(&row, 0, self.w);
         let mut d = states::lowered(row, self.w);
+        // By number, as in `next` of running: no list is gone over.
         for i in 0..self.r {
             if states::bit_at(&self.mask, i) {
                 // In two steps: the checker covers no call whose result is laid in the array that it is passed.

@@ -25,6 +25,7 @@ pub trait Rows: Runs {
         ensures { BackRow (Self.machine self) row result };
 }
 
+// A match for each method, as for `Runs`.
 impl Rows for Prepared {
     fn first_row(self, j: usize) -> [u64; ROW_WORDS] {
         match self {

@@ -14,6 +14,7 @@ impl Gfsr {
         ensures { Holds self.w (next2 self.r self.w (bits_of self.mask) (bits_of s)) result }
     {
         let mut x = 0;
+        // By number: no list is gone over, i says where a word begins and which bit of the mask is its own.
         for i in 0..self.r {
             if states::bit_at(&self.mask, i) {
                 x ^= states::word_at(&s, i * self.w, self.w);

@@ -39,6 +39,7 @@ pub trait Runs {
         ensures { result ≡ number_of (machine self).width ((machine self).out (bits_of s)) };
 }
 
+// A match for each method: no derive writes the impl of a trait of one's own.
 impl Runs for Prepared {
     ghost machine = { machine_of };
 
@@ -75,7 +76,7 @@ impl Runs for Prepared {
     }
 }
 
-// The first n bits of a word as a number, the first the most significant.
+// The first n bits of a word as a number, the first the most significant. `as`: it has no more than 32 bits.
 fn number(x: u64, n: usize) -> u32
     requires { (x < 2 ^ 32) × (n ≤ most_output) }
     ensures { result ≡ number_of n (digit x) }

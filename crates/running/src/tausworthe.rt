@@ -27,7 +27,7 @@ impl Tausworthe {
         number(states::word_at(&s, 0, self.bits), self.bits)
     }
 
-    // The output where the recurrence goes on: the first bit of each of L states in a row.
+    // The output where the recurrence goes on: the first bit of each of L states in a row. `as`: it has no more than 32 bits.
     fn stepped_bits(self, s: [u64; ROW_WORDS]) -> u32
         ensures { result ≡ number_of self.bits ((machine1 self).out (bits_of s)) }
     {

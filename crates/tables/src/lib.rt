@@ -54,7 +54,7 @@ pub fn dimensions(first: &[usize; MOST_OUTPUT], sizes: Sizes) -> [u32; MOST_OUTP
     table::<Resolution, MOST_OUTPUT>(first, sizes)
 }
 
-// What an entry lacks of the most that it can be.
+// What an entry lacks of the most that it can be. `as`, here and above: the number fits, so there is no failure for a `try_from` to tell.
 pub fn gap(most: usize, entry: u32) -> u32
     requires { (entry ≤ most) × (most ≤ most_bits) }
     ensures { result ≡ most - entry }

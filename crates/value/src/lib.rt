@@ -42,7 +42,7 @@ fn power(l: u32) -> u64
     1u64 << l
 }
 
-// y / 2^l: both conversions and the division are exact.
+// y / 2^l: both conversions and the division are exact. `as`: an `f64` has no `From<u64>`.
 fn fraction(y: u64, l: u32) -> f64
     requires { (y < 2 ^ most_output) × (l ≤ most_output) }
     ensures { result ≡ of_bits binary64 (value_bits y l) }
