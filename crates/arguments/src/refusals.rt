@@ -1,4 +1,4 @@
-// The cases that several calls share, over plain numbers.
+// The refusals that several calls share, each from the numbers that it is about.
 ghost use Rattle.std.specs.Prelude.{◌≡◌};
 ghost use Rattle.document.specs.Answer.{refusal_of};
 ghost use Rattle.document.specs.Refusals.{lowest, dimension_cases, pair_cases, state_cases, room_cases};

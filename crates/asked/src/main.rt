@@ -3,7 +3,7 @@
 // a question with a work buffer one word short, or the question (0, 0).
 #![tactic(auto)]
 
-use document::{Dimension, Fields, MOST_BITS, MOST_OUTPUT, Resolution, WORK_WORDS};
+use document::{Dimension, Fields, MOST_BITS, MOST_OUTPUT, Refusal, Resolution, WORK_WORDS};
 use question::Reply;
 use records::Records;
 use report::Report;
@@ -68,11 +68,17 @@ fn print_reply(rt: &impl Print, t: usize, l: usize, reply: &Reply) -> io::Result
     println!(rt)
 }
 
+// Was t or l refused? The reply is C's and has the refusal's number.
+fn is_out_of_range(reply: &Reply) -> bool {
+    reply.refusal == u32::from(Refusal::Dimension)
+        || reply.refusal == u32::from(Refusal::Resolution)
+}
+
 // Every resolution of a dimension, until one is out of range, as each is of a dimension out of range; gives how many were not.
 fn ask_dimension(rt: &impl Print, g: Fields, t: usize, work: &mut [u64]) -> io::Result<usize> {
     for l in 1..=MOST_OUTPUT {
         let reply = ask(g, t, l, work);
-        if matches!(reply.refusal, 7 | 8) {
+        if is_out_of_range(&reply) {
             return Ok(l - 1);
         }
         print_reply(rt, t, l, &reply)?;

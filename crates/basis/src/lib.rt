@@ -55,6 +55,7 @@ fn admitted(g: Fields, t: Dimension, l: Resolution, room: usize) -> Result<Outpu
 pub fn basis_check(g: Fields, t: Dimension, l: Resolution, room: usize) -> u32
     ensures { result ≡ basis_refusal g t.0 l.0 room }
 {
+    // `and`: the number is of the refusal alone, the output bits are not needed.
     document::refusal_of(admitted(g, t, l, room).and(Ok(())))
 }
 

@@ -136,6 +136,7 @@ pub fn parse(bytes: &[u8]) -> Result<Fields, Refusal>
     let Some(&kind) = bytes.first() else {
         return Err(Refusal::Kind);
     };
+    // From here on the byte is known to name a kind, which `length_of` and `fields_of` ask of it.
     Kind::try_from(kind)?;
     if bytes.len() != length_of(kind) {
         return Err(Refusal::Length);

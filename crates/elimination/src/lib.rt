@@ -58,8 +58,8 @@ fn first_word(buf: &[u64], at: usize, from: usize, lead: usize) -> Option<usize>
 }
 
 // The leading bit of the row at word `at`: the lowest that is set in its first `lead` words, of
-// which those before `from` are known to be zero; 64 * lead if none is set, as `trailing_zeros` of
-// a word is 64.
+// which those before `from` are known to be zero; 64 * lead if none is set. A number and no Option,
+// as `trailing_zeros` of a word is 64: the definition `Leading` of span speaks of it.
 pub fn leading_bit(buf: &[u64], at: usize, from: usize, lead: usize) -> usize
     requires { (from ≤ lead) × (at + lead ≤ length buf.now) × (64 * lead < 2 ^ 64) × Zero (64 * from) (bits_from buf.now at) }
     ensures { Leading (64 * lead) (bits_from buf.now at) result }
@@ -72,7 +72,8 @@ pub fn leading_bit(buf: &[u64], at: usize, from: usize, lead: usize) -> usize
 }
 
 // Adds to row r the earlier rows that its leading bits in turn belong to, until its leading bit is
-// nobody's; gives that bit, or 64 * lead if no bit of its first `lead` words is left.
+// nobody's; gives that bit, or 64 * lead if no bit of its first `lead` words is left (as
+// `leading_bit`). A `while`: which bits come is seen from the row alone.
 pub fn reduce_row(buf: &mut [u64], r: usize, layout: Layout, slots: &[usize]) -> usize
     requires in_room { (r * layout.stride + layout.width ≤ length buf.old) × (64 * layout.lead ≤ length slots.now) }
     requires slotted { Slotted (64 * layout.lead) r (rows_of buf.old layout.stride) (slot_of slots.now) }

@@ -59,8 +59,9 @@ impl OutputBits {
         put_row(buf, i * STRIDE + ROW_WORDS, row);
     }
 
-    // The number of the first row, of the first n, that is a sum of those before it, and so how many come before it; n if there is
-    // none. A number and no Option: its only caller passes k + 1 rows, of which there always is one. Each row is made just before it is taken.
+    // The number of the first row, of the first n, that is a sum of those before it; n if there is none. A number and no Option: it
+    // is how many rows come before, of which `FirstDependent` and the theorem `answers_all` speak. Each row is made just before it is
+    // taken, so none is made in vain.
     pub fn first_dependent(self, buf: &mut [u64], n: usize) -> usize
         requires { n * stride ≤ length buf.old }
         ensures { FirstDependent (machine_of self.generator) self.l n buf.old result buf.new }

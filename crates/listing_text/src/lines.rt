@@ -1,4 +1,4 @@
-// The lines of a listing.
+// The lines of a listing. Each asks that there is room for a line: a fact of the page at that call, and no invariant of pages.
 ghost use Rattle.std.specs.Prelude.{Bool, ◌+◌, ◌<◌, ◌≤◌, length};
 ghost use Rattle.listing_text.specs.Text.{most_number, row_line, head_line, sums_line, me_line, verdict, refused_line, line_bytes};
 ghost use Rattle.listing_text.specs.Wrote.{Added};

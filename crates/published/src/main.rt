@@ -25,6 +25,7 @@ fn show(rt: &impl Print, entry: &[u8; RECORD_BYTES]) -> io::Result<()> {
     let t = usize::from(entry[66]).min(MOST_OUTPUTS);
     let mut out = [0u32; MOST_OUTPUTS];
     let refusal = outputs::outputs(fields, Dimension(t), state(entry), &mut out);
+    // The call answers with the number that C gets.
     if refusal != 0 {
         return refused(rt, refusal);
     }

@@ -1,7 +1,7 @@
 // What the programs read on standard input: records of one length, in which a description stands in 65 bytes behind its own length.
 #![tactic(auto)]
 
-ghost use Rattle.std.specs.Prelude.{◌≡◌, ◌+◌, ◌≤◌, IfSome, min, length, get_or, take, drop};
+ghost use Rattle.std.specs.Prelude.{◌≡◌, ◌+◌, ◌-◌, ◌<◌, ◌≤◌, IfSome, min, length, get_or, take, drop};
 ghost use Rattle.std.specs.Io.KnownBytes.{Consumes};
 ghost use Rattle.std.specs.Iterator.{at_most};
 
@@ -22,7 +22,8 @@ pub struct Records<R, const N: usize> {
 
 impl<R: Read + Drop, const N: usize> Records<R, N> {
     pub fn new(input: R) -> Records<R, N>
-        ensures { result.left ≡ MOST_RECORDS }
+        ensures input { result.input ≡ input }
+        ensures left { result.left ≡ MOST_RECORDS }
     {
         Records {
             input,
@@ -34,8 +35,8 @@ impl<R: Read + Drop, const N: usize> Records<R, N> {
 impl<R: Read + Drop, const N: usize> Iterator for Records<R, N> {
     type Item = [u8; N];
 
-    // A record is what stands next in the input, where that is known.
-    ghost next_gives = { λ s r t. IfSome r (λ bytes. Consumes (R.remaining s.input) (R.remaining t.input) bytes) };
+    // A record is what stands next in the input, where that is known, and one fewer is left.
+    ghost next_gives = { λ s r t. (t.left ≡ s.left - 1) × IfSome r (λ bytes. (0 < s.left) × Consumes (R.remaining s.input) (R.remaining t.input) bytes) };
 
     ghost remaining = { λ s. at_most s.left };
 

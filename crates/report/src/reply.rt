@@ -21,7 +21,7 @@ impl Report {
     ghost use Rattle.document.specs.Answer.{refusal_number};
 
     // A refusal: all other numbers are 0.
-    pub fn refused(refusal: Refusal) -> Report
+    pub(crate) fn refused(refusal: Refusal) -> Report
         ensures { result ≡ refused_with (refusal_number refusal) }
     {
         Report {

@@ -1,4 +1,5 @@
-// Words of w bits, held mirrored: bit j, the first being bit 0, is worth 2^j.
+// Words of w bits, held mirrored: bit j, the first being bit 0, is worth 2^j. w and the word go beside one another, not as one struct: a
+// tempering is four steps at one w, and a struct would carry w through each and say twice that it is the same.
 ghost use Rattle.std.specs.Prelude.{◌≡◌, true, ℕ, ◌+◌, ◌-◌, ◌*◌, ◌%◌, ◌<◌, ◌≤◌, ◌^◌};
 ghost use Rattle.digits.specs.Def.{digit, word_of};
 ghost use Rattle.kinds.specs.Generator.{twist, add_left, add_right, join};
