@@ -21,7 +21,7 @@ impl Tausworthe {
 
     // The output where the state has its bits: the first L of them.
     fn first_bits(self, s: [u64; ROW_WORDS]) -> u32
-        requires { self.bits ≤ self.k }
+        requires { (1 ≤ self.bits) × (self.bits ≤ self.k) }
         ensures { result ≡ number_of self.bits ((machine1 self).out (bits_of s)) }
     {
         number(states::word_at(&s, 0, self.bits), self.bits)
@@ -66,7 +66,7 @@ impl Runs for Tausworthe {
 
     // The output: L bits from x_n on.
     fn output(self, s: [u64; ROW_WORDS]) -> u32 {
-        if self.bits <= self.k {
+        if (1..=self.k).contains(&self.bits) {
             self.first_bits(s)
         } else {
             self.stepped_bits(s)
