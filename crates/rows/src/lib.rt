@@ -8,9 +8,9 @@ ghost use Rattle.rows.specs.Post.{FirstRow, BackRow};
 use document::ROW_WORDS;
 use running::{Prepared, Runs};
 
-mod gfsr;
-mod tausworthe;
-mod twister;
+pub mod gfsr;
+pub mod tausworthe;
+pub mod twister;
 
 // What gives its output bits as rows.
 pub trait Rows: Runs {

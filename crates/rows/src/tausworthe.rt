@@ -1,5 +1,6 @@
 // Kind 1. A step transposed moves a row up by one and adds the taps if its bit k - 1 leaves; the tap k takes that bit away.
 ghost use Rattle.digits.specs.Def.{Clear, bits_of};
+ghost use Rattle.running.specs.Ranges.{Mask};
 ghost use Rattle.rows.specs.Post.{StepsBack};
 
 use crate::Rows;
@@ -7,27 +8,32 @@ use document::ROW_WORDS;
 use running::Tausworthe;
 
 // The row before one step.
-fn step_backed(p: Tausworthe, row: [u64; ROW_WORDS]) -> [u64; ROW_WORDS]
-    requires { Clear p.k (bits_of row) }
-    ensures { StepsBack p.k p.mask 1 row result }
+pub fn step_backed(k: usize, mask: [u64; ROW_WORDS], row: [u64; ROW_WORDS]) -> [u64; ROW_WORDS]
+    requires { Mask k mask × Clear k (bits_of row) }
+    ensures { StepsBack k mask 1 row result }
 {
     let r = states::shifted_up(row, 1, 0);
-    if states::bit_at(&row, p.k - 1) {
-        states::added(r, p.mask)
+    if states::bit_at(&row, k - 1) {
+        states::added(r, mask)
     } else {
         r
     }
 }
 
 // The row before n steps.
-fn steps_backed(p: Tausworthe, n: usize, row: [u64; ROW_WORDS]) -> [u64; ROW_WORDS]
-    requires { Clear p.k (bits_of row) }
-    ensures { StepsBack p.k p.mask n row result }
+pub fn steps_backed(
+    k: usize,
+    mask: [u64; ROW_WORDS],
+    n: usize,
+    row: [u64; ROW_WORDS],
+) -> [u64; ROW_WORDS]
+    requires { Mask k mask × Clear k (bits_of row) }
+    ensures { StepsBack k mask n row result }
 {
     let mut r = row;
     for _ in 0..n {
         // In two steps: the checker covers no call whose result is laid in the array that it is passed.
-        let before = step_backed(p, r);
+        let before = step_backed(k, mask, r);
         r = before;
     }
     r
@@ -37,11 +43,11 @@ fn steps_backed(p: Tausworthe, n: usize, row: [u64; ROW_WORDS]) -> [u64; ROW_WOR
 impl Rows for Tausworthe {
     // The first bit of the state j steps later.
     fn first_row(self, j: usize) -> [u64; ROW_WORDS] {
-        steps_backed(self, j, states::flipped([0; ROW_WORDS], 0))
+        steps_backed(self.k, self.mask, j, states::flipped([0; ROW_WORDS], 0))
     }
 
     // ν steps.
     fn backed(self, row: [u64; ROW_WORDS]) -> [u64; ROW_WORDS] {
-        steps_backed(self, self.nu, row)
+        steps_backed(self.k, self.mask, self.nu, row)
     }
 }

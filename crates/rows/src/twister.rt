@@ -10,7 +10,7 @@ use running::Twister;
 use states::words;
 
 // The tempering transposed, of bit j alone.
-fn first_word(p: Twister, j: usize) -> u64
+pub fn first_word(p: Twister, j: usize) -> u64
     requires { j < p.w }
     ensures { Holds p.w (first4 p.w p.u p.s (digit p.b) p.t (digit p.c) p.v j) result }
 {

@@ -47,12 +47,6 @@ ready_most (OfTausworthe p) = p.taps.most
 ready_most (OfGfsr p) = p.words.fit
 ready_most (OfTwister p) = omega (arith, p.words.fit)
 
-pub ready_least : (p : Prepared) → 1 ≤ (machine_of p).width
-unfolding tausworthe gfsr mersenne
-ready_least (OfTausworthe p) = p.some
-ready_least (OfGfsr p) = p.words.least
-ready_least (OfTwister p) = p.words.least
-
 pub ready_width : (p : Prepared) → (machine_of p).width ≤ most_output
 unfolding tausworthe gfsr mersenne
 ready_width (OfTausworthe p) = p.narrow

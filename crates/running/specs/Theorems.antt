@@ -47,10 +47,7 @@ ready_local = R.ready_local
 pub ready_most : (p : Prepared) → (machine_of p).size ≤ most_bits
 ready_most = R.ready_most
 
--- an output has bits, and a word of 32 holds them
-pub ready_least : (p : Prepared) → 1 ≤ (machine_of p).width
-ready_least = R.ready_least
-
+-- a word of 32 holds an output's bits
 pub ready_width : (p : Prepared) → (machine_of p).width ≤ most_output
 ready_width = R.ready_width
 

@@ -1,27 +1,27 @@
 // Kind 2. The state is r words, the newest first, and the mask has the coefficient of the word i at bit i.
-ghost use Rattle.std.specs.Prelude.{◌≡◌};
+ghost use Rattle.std.specs.Prelude.{◌≡◌, ◌*◌, ◌≤◌};
 ghost use Rattle.digits.specs.Def.{bits_of};
 ghost use Rattle.kinds.specs.Generator.{next2};
+ghost use Rattle.document.specs.Limits.{most_bits, most_output};
 ghost use Rattle.states.specs.Post.{Holds};
 ghost use Rattle.running.specs.Prepared.{machine2};
 
 use crate::{Gfsr, Runs, number};
 use document::ROW_WORDS;
 
-impl Gfsr {
-    // The new word: the sum of those words that have their coefficient.
-    fn next(self, s: [u64; ROW_WORDS]) -> u64
-        ensures { Holds self.w (next2 self.r self.w (bits_of self.mask) (bits_of s)) result }
-    {
-        let mut x = 0;
-        // By number: no list is gone over, i says where a word begins and which bit of the mask is its own.
-        for i in 0..self.r {
-            if states::bit_at(&self.mask, i) {
-                x ^= states::word_at(&s, i * self.w, self.w);
-            }
+// The new word: the sum of those words that have their coefficient.
+pub fn next(r: usize, w: usize, mask: [u64; ROW_WORDS], s: [u64; ROW_WORDS]) -> u64
+    requires { (1 ≤ w) × (w ≤ most_output) × (r * w ≤ most_bits) }
+    ensures { Holds w (next2 r w (bits_of mask) (bits_of s)) result }
+{
+    let mut x = 0;
+    // By number: no list is gone over, i says where a word begins and which bit of the mask is its own.
+    for i in 0..r {
+        if states::bit_at(&mask, i) {
+            x ^= states::word_at(&s, i * w, w);
         }
-        x
     }
+    x
 }
 
 #[tactic(auto, unfolding(kinds::specs::Generator::gfsr))]
@@ -37,7 +37,7 @@ impl Runs for Gfsr {
     }
 
     fn moved(self, s: [u64; ROW_WORDS]) -> [u64; ROW_WORDS] {
-        states::shifted_up(s, self.w, self.next(s))
+        states::shifted_up(s, self.w, next(self.r, self.w, self.mask, s))
     }
 
     // The output: the leading bits of the first word.

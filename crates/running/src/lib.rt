@@ -10,11 +10,11 @@ ghost use Rattle.running.specs.Prepared.{PreparedFor, machine_of};
 
 use document::{Fields, Kind, ROW_WORDS};
 
-mod gfsr;
-mod preparing;
+pub mod gfsr;
+pub mod preparing;
 mod ready;
-mod tausworthe;
-mod twister;
+pub mod tausworthe;
+pub mod twister;
 
 pub use ready::{Gfsr, Prepared, Tausworthe, Twister};
 

@@ -20,7 +20,7 @@ fn word_of(x: u32, w: u8) -> u64
 }
 
 // The coefficients as a mask: a_(i+1) at bit i.
-fn coefficient_mask(c: [u8; COEFFICIENT_BYTES]) -> [u64; ROW_WORDS]
+pub fn coefficient_mask(c: [u8; COEFFICIENT_BYTES]) -> [u64; ROW_WORDS]
     ensures { (i : ℕ) → bits_of result i ≡ digit (get_or c (i / 8) 0) (7 - i % 8) }
 {
     let mut mask = [0; ROW_WORDS];
@@ -33,7 +33,7 @@ fn coefficient_mask(c: [u8; COEFFICIENT_BYTES]) -> [u64; ROW_WORDS]
 }
 
 // The taps of kind 1: the first k bits of c the other way round, and the bit k.
-fn tap_mask(k: usize, c: [u64; ROW_WORDS]) -> [u64; ROW_WORDS]
+pub fn tap_mask(k: usize, c: [u64; ROW_WORDS]) -> [u64; ROW_WORDS]
     requires { k ≤ most_bits }
     ensures { (i : ℕ) → bits_of result i ≡ taps k (bits_of c) i }
 {

@@ -14,7 +14,6 @@ pub struct Tausworthe {
     pub nu: usize,
     pub mask: [u64; ROW_WORDS],
     pub ghost taps: { Mask k mask },
-    pub ghost some: { 1 ≤ bits },
     pub ghost narrow: { bits ≤ most_output },
 }
 

@@ -1,27 +1,29 @@
 // Kind 1. The state is x_n, .., x_(n+k-1), and the mask has the taps: the bits that x_(n+k) sums, and the bit k.
 ghost use Rattle.std.specs.Prelude.{◌≡◌, ◌≤◌};
 ghost use Rattle.digits.specs.Def.{bits_of, number_of};
+ghost use Rattle.running.specs.Ranges.{Mask};
 ghost use Rattle.running.specs.Prepared.{Stepped, machine1};
 
 use crate::{Runs, Tausworthe, number};
 use document::ROW_WORDS;
 
-impl Tausworthe {
-    // One step. The parity is the new bit plus the bit that moves down to k - 1, so that flipping leaves the new bit there.
-    fn stepped(self, s: [u64; ROW_WORDS]) -> [u64; ROW_WORDS]
-        ensures { Stepped self.k self.mask 1 s result }
-    {
-        let r = states::lowered(s, 1);
-        if states::parity(self.mask, s) {
-            states::flipped(r, self.k - 1)
-        } else {
-            r
-        }
+// One step. The parity is the new bit plus the bit that moves down to k - 1, so that flipping leaves the new bit there.
+pub fn stepped(k: usize, mask: [u64; ROW_WORDS], s: [u64; ROW_WORDS]) -> [u64; ROW_WORDS]
+    requires { Mask k mask }
+    ensures { Stepped k mask 1 s result }
+{
+    let r = states::lowered(s, 1);
+    if states::parity(mask, s) {
+        states::flipped(r, k - 1)
+    } else {
+        r
     }
+}
 
+impl Tausworthe {
     // The output where the state has its bits: the first L of them.
     fn first_bits(self, s: [u64; ROW_WORDS]) -> u32
-        requires { self.bits ≤ self.k }
+        requires { (1 ≤ self.bits) × (self.bits ≤ self.k) }
         ensures { result ≡ number_of self.bits ((machine1 self).out (bits_of s)) }
     {
         number(states::word_at(&s, 0, self.bits), self.bits)
@@ -35,7 +37,7 @@ impl Tausworthe {
         let mut t = s;
         for _ in 0..self.bits {
             r = r * 2 + t[0] % 2;
-            t = self.stepped(t);
+            t = stepped(self.k, self.mask, t);
         }
         r as u32
     }
@@ -58,7 +60,7 @@ impl Runs for Tausworthe {
         let mut t = s;
         for _ in 0..self.nu {
             // In two steps: the checker covers no call whose result is laid in the array that it is passed.
-            let next = self.stepped(t);
+            let next = stepped(self.k, self.mask, t);
             t = next;
         }
         t
@@ -66,7 +68,7 @@ impl Runs for Tausworthe {
 
     // The output: L bits from x_n on.
     fn output(self, s: [u64; ROW_WORDS]) -> u32 {
-        if self.bits <= self.k {
+        if (1..=self.k).contains(&self.bits) {
             self.first_bits(s)
         } else {
             self.stepped_bits(s)

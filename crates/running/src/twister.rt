@@ -11,7 +11,7 @@ use states::words;
 
 impl Twister {
     // The new word: the word m before the last, plus the twist of the last two joined.
-    fn next(self, s: [u64; ROW_WORDS]) -> u64
+    pub fn next(self, s: [u64; ROW_WORDS]) -> u64
         ensures { Holds self.w (next4 self.r self.m self.w self.p (digit self.a) (bits_of s)) result }
     {
         let r = self.r;
@@ -23,7 +23,7 @@ impl Twister {
     }
 
     // The first word tempered.
-    fn tempered(self, s: [u64; ROW_WORDS]) -> u64
+    pub fn tempered(self, s: [u64; ROW_WORDS]) -> u64
         ensures { Holds self.w (temper4 self.w self.u self.s (digit self.b) self.t (digit self.c) self.v (word self.w 0 (bits_of s))) result }
     {
         let w = self.w;

@@ -6,7 +6,7 @@ use Rattle.running.proofs.PrepareLaws.{mask_is}
 use Rattle.running.proofs.preparing.of_tausworthe.Goals as goal
 
 pub invariant_of-result : goal.invariant_of-result
-invariant_of-result c = record { taps = mask_is _ _ _ (omega arith) (omega arith) c.tap_mask.ensures; some = omega arith; narrow = omega arith }
+invariant_of-result c = record { taps = mask_is _ _ _ (omega arith) (omega arith) c.tap_mask.ensures; narrow = omega arith }
 
 pub returns : goal.returns
 unfolding coefficient

@@ -1,8 +1,8 @@
 use Rattle.running.proofs.KindTwo.{chosen_none, chosen_one, chosen_not, chosen_all}
 use mathlib.Core.Path.{◌≡◌, sym, ◌∙◌}
 use native.Mathlib.Omega.{arith}
-use Rattle.running.proofs.ready.Gfsr.next.Goals as goal
-use Rattle.running.proofs.ready.Gfsr.next.Goals.{then-bit_at, else-bit_at}
+use Rattle.running.proofs.gfsr.next.Goals as goal
+use Rattle.running.proofs.gfsr.next.Goals.{then-bit_at, else-bit_at}
 
 pub loop-i-init : goal.loop-i-init
 loop-i-init c = (omega arith, chosen_none _ _ _)
@@ -18,4 +18,4 @@ loop-i-preserved c =
     )
 
 pub returns : goal.returns
-returns c = let e : c.loop-i.i ≡ c.args.self.r = omega arith in chosen_all _ _ _ _ _ (rw e at c.loop-i.invariant.1)
+returns c = let e : c.loop-i.i ≡ c.args.r = omega arith in chosen_all _ _ _ _ _ (rw e at c.loop-i.invariant.1)
