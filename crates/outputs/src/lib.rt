@@ -38,7 +38,7 @@ fn run(p: Prepared, start: [u64; ROW_WORDS], out: &mut [u32])
     let mut s = start;
     for place in out.iter_mut() {
         *place = p.output(s);
-        // In two steps: the checker covers no call whose result is laid in the array that it is passed.
+        // In two steps: in one, the checker says that it does not cover the array both lent to the call and laid by it here.
         let next = p.moved(s);
         s = next;
     }

@@ -16,7 +16,7 @@ impl Rows for Gfsr {
         // By number, as in `next` of running: no list is gone over.
         for i in 0..self.r {
             if states::bit_at(&self.mask, i) {
-                // In two steps: the checker covers no call whose result is laid in the array that it is passed.
+                // In two steps: in one, the checker says that it does not cover the array both lent to the call and laid by it here.
                 let next = states::placed(d, i * self.w, self.w, y);
                 d = next;
             }

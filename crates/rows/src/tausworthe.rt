@@ -32,7 +32,7 @@ pub fn steps_backed(
 {
     let mut r = row;
     for _ in 0..n {
-        // In two steps: the checker covers no call whose result is laid in the array that it is passed.
+        // In two steps: in one, the checker says that it does not cover the array both lent to the call and laid by it here.
         let before = step_backed(k, mask, r);
         r = before;
     }

@@ -25,7 +25,7 @@ pub fn coefficient_mask(c: [u8; COEFFICIENT_BYTES]) -> [u64; ROW_WORDS]
 {
     let mut mask = [0; ROW_WORDS];
     for (j, byte) in c.iter().enumerate() {
-        // In two steps: the checker covers no call whose result is laid in the array that it is passed.
+        // In two steps: in one, the checker says that it does not cover the array both lent to the call and laid by it here.
         let next = states::placed(mask, 8 * j, 8, words::mirrored(u64::from(*byte), 8));
         mask = next;
     }

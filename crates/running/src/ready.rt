@@ -49,6 +49,7 @@ pub struct Twister {
     pub ghost shifts: { (u ≤ w) × (s ≤ w) × (t ≤ w) × (v ≤ w) },
 }
 
+// A generator made ready: which of the three it is says how it moves.
 #[derive(Clone, Copy)]
 pub enum Prepared {
     Tausworthe(Tausworthe),

@@ -59,7 +59,7 @@ impl Runs for Tausworthe {
     fn moved(self, s: [u64; ROW_WORDS]) -> [u64; ROW_WORDS] {
         let mut t = s;
         for _ in 0..self.nu {
-            // In two steps: the checker covers no call whose result is laid in the array that it is passed.
+            // In two steps: in one, the checker says that it does not cover the array both lent to the call and laid by it here.
             let next = stepped(self.k, self.mask, t);
             t = next;
         }
