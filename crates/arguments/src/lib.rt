@@ -6,5 +6,5 @@ mod refusals;
 mod sizes;
 
 pub use asked::asked_refusal;
-pub use refusals::{pair_refusal, room_refusal, state_refusal};
+pub use refusals::{dimension_refusal, pair_refusal, room_refusal, state_refusal};
 pub use sizes::{SizeReply, size, sized};

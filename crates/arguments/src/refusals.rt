@@ -1,39 +1,52 @@
-// The cases that several calls share, over plain numbers.
+// The refusals that several calls share, each from the numbers that it is about.
 ghost use Rattle.std.specs.Prelude.{◌≡◌};
-ghost use Rattle.document.specs.Refusals.{lowest, pair_cases, state_cases, room_cases};
+ghost use Rattle.document.specs.Answer.{refusal_of};
+ghost use Rattle.document.specs.Refusals.{lowest, dimension_cases, pair_cases, state_cases, room_cases};
 
-use document::{Dimension, ROW_WORDS, Resolution};
+use document::{Dimension, ROW_WORDS, Refusal, Resolution};
 use fields::outside;
 
-// 7 and 8, for k state bits and outputs of `bits` bits.
-pub fn pair_refusal(k: usize, bits: usize, t: Dimension, l: Resolution) -> u32
-    ensures { result ≡ lowest (pair_cases k bits t.0 l.0) }
+// What refuses t, for k state bits.
+#[tactic(auto, unfolding(document::specs::Refusals::lowest))]
+pub fn dimension_refusal(k: usize, t: Dimension) -> Result<(), Refusal>
+    ensures { refusal_of result ≡ lowest (dimension_cases k t.0) }
 {
     if outside(1, k, t.0) {
-        return 7;
+        return Err(Refusal::Dimension);
     }
-    if outside(1, bits, l.0) {
-        return 8;
-    }
-    0
+    Ok(())
 }
 
-// 9, for k state bits.
-pub fn state_refusal(k: usize, state: [u64; ROW_WORDS]) -> u32
-    ensures { result ≡ lowest (state_cases k state) }
+// What refuses t and l, for k state bits and outputs of `bits` bits.
+#[tactic(auto, unfolding(document::specs::Refusals::lowest))]
+pub fn pair_refusal(k: usize, bits: usize, t: Dimension, l: Resolution) -> Result<(), Refusal>
+    ensures { refusal_of result ≡ lowest (pair_cases k bits t.0 l.0) }
+{
+    dimension_refusal(k, t)?;
+    if outside(1, bits, l.0) {
+        return Err(Refusal::Resolution);
+    }
+    Ok(())
+}
+
+// What refuses a start state, for k state bits.
+#[tactic(auto, unfolding(document::specs::Refusals::lowest))]
+pub fn state_refusal(k: usize, state: [u64; ROW_WORDS]) -> Result<(), Refusal>
+    ensures { refusal_of result ≡ lowest (state_cases k state) }
 {
     if states::late_bit(k, state) {
-        return 9;
+        return Err(Refusal::State);
     }
-    0
+    Ok(())
 }
 
-// 11, for a buffer of `room` where `least` are needed.
-pub fn room_refusal(least: usize, room: usize) -> u32
-    ensures { result ≡ lowest (room_cases least room) }
+// What refuses a buffer of `room` where `least` are needed.
+#[tactic(auto, unfolding(document::specs::Refusals::lowest))]
+pub fn room_refusal(least: usize, room: usize) -> Result<(), Refusal>
+    ensures { refusal_of result ≡ lowest (room_cases least room) }
 {
     if room < least {
-        return 11;
+        return Err(Refusal::Room);
     }
-    0
+    Ok(())
 }

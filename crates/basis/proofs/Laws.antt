@@ -1,16 +1,9 @@
 -- From the rows in a buffer to the basis.
-use mathlib.Core.Path.{◌≡◌, refl, sym, ap, subst, ◌∙◌}
-use mathlib.Core.Bool.{false, ◌&&◌, true≢false}
-use mathlib.Core.List.{List}
-use mathlib.Core.Logic.{by_cases}
-use native.Mathlib.Decide.{dec_lt}
-use Prim.Native.Nat.{ℕ, ◌+◌, ◌*◌, ◌/◌, ◌%◌, ◌≤◌, ◌<◌}
-use native.Mathlib.Nat.{mul-le-mul}
-use native.Mathlib.Omega.{arith}
-use borrow.Author.Tests.{ltb-false}
-use lib.Dec.{ltb}
-use lib.ListN.{length, take, drop, length-take, get_or-eq_default}
-use lib.Seq.{get_or-take, length-take-le}
+use Rattle.std.specs.Prelude.{◌≡◌, refl, false, ◌&&◌, List, ℕ, ◌+◌, ◌*◌, ◌/◌, ◌%◌, ◌^◌, ◌≤◌, ◌<◌, ltb, ◌∷◌, length, get_or, take, drop, Ok, Err}
+use Rattle.std.proofs.Common.{sym, ap, subst, ◌∙◌, true≢false, mul-le-mul, arith, lt-ltb, le-ltb, get_or-take, length-take-le}
+use Rattle.std.proofs.Math.Logic.{by_cases}
+use Rattle.std.proofs.Math.Decide.{dec_lt}
+use Rattle.std.proofs.Math.ListN.{length-take, get_or-eq_default}
 use Rattle.theory.specs.Def.{xorsum, unit, Spanned, Reduced}
 use Rattle.theory.specs.Laws.{xorsum_cong}
 use Rattle.theory.specs.Sums.{pair-unit, pair-none}
@@ -22,16 +15,19 @@ use Rattle.document.specs.Cells.{bit_of}
 use Rattle.document.specs.declared.Fields.{Fields}
 use Rattle.document.specs.declared.Dimension.{Dimension}
 use Rattle.document.specs.declared.Resolution.{Resolution}
-use Rattle.document.specs.Limits.{row_words, most_bits, work_words}
+use Rattle.document.specs.declared.refusals.Refusal.{Refusal}
+use Rattle.document.proofs.Refused.{refused}
+use Rattle.document.specs.Answer.{refusal_number}
+use Rattle.document.specs.Limits.{row_words, most_bits, most_output, work_words}
 use Rattle.document.specs.Generator.{machine, size}
-use Rattle.document.specs.Refusals.{field_cases, outside, basis_refusal}
-use Rattle.document.specs.Lowest.{field_rises, after}
-use Rattle.document.specs.Ranges.{Accepted, passed, inside}
-use Rattle.document.proofs.Accepted.{accepted}
+use Rattle.document.specs.Lowest.{gives, skips}
+use Rattle.document.specs.Refusals.{◌if◌, lowest, asked_cases, room_cases, basis_refusal}
+use Rattle.document.specs.Ranges.{Accepted}
 use Rattle.document.specs.Basis.{row, BasisOf}
-use Rattle.running.specs.declared.Prepared.{Prepared}
+use Rattle.arguments.specs.Passed.{asked_first, asked_then}
+use Rattle.running.specs.declared.ready.Prepared.{Prepared}
 use Rattle.running.specs.Prepared.{PreparedFor, machine_of}
-use Rattle.running.specs.Theorems.{prepared_size}
+use Rattle.running.specs.Theorems.{prepared_size, prepared_width}
 use Rattle.rows.specs.Theorems.{row_prepared}
 use Rattle.elimination.specs.Rows.{rows_of}
 use Rattle.elimination.proofs.RowBits.{bits_same}
@@ -39,33 +35,43 @@ use Rattle.reduction.specs.Columns.{ReducedForm}
 use Rattle.reduction.specs.Packs.{Packed}
 use Rattle.reduction.specs.Theorems as Reduction
 use Rattle.reduction.proofs.Packs.{packed_bit}
+use Rattle.filling.specs.declared.bits.OutputBits.{OutputBits}
+use Rattle.filling.specs.Asked.{AskedFor}
 use Rattle.filling.specs.Rows.{stride, state_row, Filled}
-use Rattle.basis.specs.Promises.{basis_row, Based, Handed}
+use Rattle.filling.specs.Theorems.{size_most, ready_bits, product_small}
+use Rattle.basis.specs.Promises.{basis_row, Based, Handed, BasisRows, reply_of}
 use Rattle.basis.specs.First.{machine_sets}
 use Rattle.basis.specs.Theorems.{row_word}
 
--- ---- where nothing refuses
+-- ---- what is asked
 
-pub record Passed (g : Fields) (t l room : ℕ) : Type 0 where
-  pub accepted : Accepted g
-  pub t_least : 1 ≤ t
-  pub t_most : t ≤ size g
-  pub l_least : 1 ≤ l
-  pub l_most : l ≤ g.bits
-  pub product : t * l ≤ size g
-  pub enough : work_words ≤ room
+module _ (g : Fields) (t l : ℕ) (bits : OutputBits) (x : AskedFor g t l bits) where
+  pub sized : (machine_of bits.generator).size ≡ size g
+  sized = prepared_size g bits.generator x.passed.accepted x.prepared
 
-pub all_passed : (g : Fields) (t l room : ℕ) → basis_refusal g t l room ≡ 0 → Passed g t l room
+  -- t·l is computed with room to spare
+  pub product_fits : t * l ≤ most_bits * most_output
+  product_fits = product_small (size g) t l (size_most g bits.generator x.passed.accepted x.prepared) x.passed.t_most (omega (arith, x.same, bits.within, ready_bits bits.generator))
+
+  -- what refuses a basis behind t and l: the product, and then the room
+  module _ (room : ℕ) (none : 0 ≡ lowest (asked_cases g t l)) (k : ℕ) (same : k ≡ (machine_of bits.generator).size) where
+    behind : (r : ℕ) → r ≡ lowest ((10 if ltb (size g) (t * l)) ∷ room_cases work_words room) → r ≡ basis_refusal g t l room
+    unfolding basis_refusal
+    behind r e = asked_then g t l ((10 if ltb (size g) (t * l)) ∷ room_cases work_words room) 0 r none refl e
+
+    tested : ltb k (t * l) ≡ ltb (size g) (t * l)
+    tested = ap (λ n. ltb n (t * l)) (same ∙ sized)
+
+    pub product_refused : k < t * l → 10 ≡ basis_refusal g t l room
+    product_refused h = behind 10 (gives _ _ _ _ tested (lt-ltb _ _ h))
+
+    pub product_passed : t * l ≤ k → (r : ℕ) → r ≡ lowest (room_cases work_words room) → r ≡ basis_refusal g t l room
+    product_passed h r e = behind r (skips _ _ _ _ _ tested (le-ltb _ _ h) e)
+
+-- t or l itself, or the fields
+pub asked_refused : (g : Fields) (t l room r : ℕ) → r ≡ lowest (asked_cases g t l) → (r ≡ 0 → ⊥) → r ≡ basis_refusal g t l room
 unfolding basis_refusal
-all_passed g t l room e =
-    let (e₁, e₂) = after 0 (field_cases g) _ (field_rises g) e in
-    let (b₁, e₃) = passed 6 (outside 1 (size g) t) _ e₂ in
-    let (b₂, e₄) = passed 7 (outside 1 g.bits l) _ e₃ in
-    let (b₃, e₅) = passed 9 (ltb (size g) (t * l)) _ e₄ in
-    let (b₄, e₆) = passed 10 (ltb room work_words) _ e₅ in
-    let (t₁, t₂) = inside 1 (size g) t b₁ in
-    let (l₁, l₂) = inside 1 g.bits l b₂ in
-    record { accepted = accepted g e₁; t_least = t₁; t_most = t₂; l_least = l₁; l_most = l₂; product = ltb-false (size g) (t * l) b₃; enough = ltb-false room work_words b₄ }
+asked_refused g t l room r e n = asked_first g t l ((10 if ltb (size g) (t * l)) ∷ room_cases work_words room) r e n
 
 pub product_some : (t l : ℕ) → 1 ≤ t → 1 ≤ l → 0 < t * l
 product_some t l h k = let e : 1 * 1 ≤ t * l = mul-le-mul h k in omega arith
@@ -112,7 +118,7 @@ module _ (M : Machine) (l n rank : ℕ) (fits : M.size ≤ 64 * row_words) (few 
       words : bits_from now (i * row_words) b ≡ bits_from mid (i * stride) b
       words = packed_bit z i h b f
 
-  pub based : Based M l n was rank now
+  based : Based M l n was rank now
   based = record {
     rows = λ i h. (x.rows i h).is;
     few = y.rows.few;
@@ -129,6 +135,11 @@ module _ (M : Machine) (l n rank : ℕ) (fits : M.size ≤ 64 * row_words) (few 
     rest = λ j h. z.behind j h ∙ y.kept.behind j (omega arith) ∙ x.behind j (omega arith);
   }
 
+-- the same where the columns are counted by a number k that the generator gives as its size
+pub based_by_size : (M : Machine) (l n rank k : ℕ) → k ≡ M.size → M.size ≤ 64 * row_words → n ≤ most_bits → (was filled mid now : List ℕ) → Filled M l n was filled
+    → ReducedForm filled n stride row_words k rank mid → Packed mid rank stride row_words work_words now → Based M l n was rank now
+based_by_size M l n rank k e fits few was filled mid now x y z = based M l n rank fits few was filled mid now x (rw e at y) z
+
 -- ---- the basis of the description's machine
 
 module _ (g : Fields) (p : Prepared) (a : Accepted g) (y : PreparedFor g p) (t l : ℕ) (lo : 0 < l) (hi : l ≤ (machine g).width) (was : List ℕ) (rank : ℕ) (now : List ℕ)
@@ -141,7 +152,7 @@ module _ (g : Fields) (p : Prepared) (a : Accepted g) (y : PreparedFor g p) (t l
 
   pub basis_of : BasisOf (machine g) t l rank (basis_row now)
   basis_of =
-      let e : p.k ≡ size g = prepared_size g p a y in
+      let e : (machine_of p).size ≡ size g = prepared_size g p a y in
       record {
         lead = x.lead;
         reduced = subst (λ k. Reduced k rank (basis_row now) x.lead) e x.reduced;
@@ -162,6 +173,42 @@ module _ (g : Fields) (p : Prepared) (a : Accepted g) (y : PreparedFor g p) (t l
       (true≢false
       (sym o ∙ sym (bit-first (machine g) l 0 s lo) ∙ sym (q.sum s)
       ∙ pair-none (size g) (state_row (machine_of p) l 0) s (λ b f. rw e at ((x.all 0 h).sum b (omega (arith, prepared_size g p a y)))))))
+
+-- ---- the promise, of an answer and of a refusal
+
+module _ (g : Fields) (t : Dimension) (l : Resolution) (was : List ℕ) where
+  pub refused_as : (r : Refusal) → refusal_number r ≡ basis_refusal g t.0 l.0 (length was) → BasisRows g t l was (reply_of (Err r)) was
+  refused_as r e = record {
+    refusal = e;
+    rows = λ z. absurd (refused r z);
+    zeros = λ z. absurd (refused r z);
+    rest = λ z. absurd (refused r z);
+    long = refl;
+    within = omega arith;
+    refused = λ _. (refl, refl);
+  }
+
+  module _ (bits : OutputBits) (x : AskedFor g t.0 l.0 bits) (few : t.0 * l.0 ≤ size g) (room : work_words ≤ length was)
+      (e : 0 ≡ basis_refusal g t.0 l.0 (length was)) (rank : ℕ) (now : List ℕ) (small : (i : ℕ) → get_or now i 0 < 2 ^ 64) where
+    wide : bits.l ≤ (machine g).width
+    wide = omega (arith, bits.within, prepared_width g bits.generator x.passed.accepted x.prepared)
+
+    pub handed : Based (machine_of bits.generator) bits.l (t.0 * bits.l) was rank now → BasisRows g t l was (reply_of (Ok (row_words * rank))) now
+    handed d = record {
+      refusal = e;
+      rows = λ _. record {
+        rank = rank;
+        some = rank_some g bits.generator x.passed.accepted x.prepared t.0 bits.l bits.some wide was rank now d (product_some t.0 bits.l x.passed.t_least bits.some);
+        count = refl;
+        rows = rw x.same at (basis_of g bits.generator x.passed.accepted x.prepared t.0 bits.l bits.some wide was rank now d);
+        small = λ i _. small i;
+      };
+      zeros = λ _. d.zeros;
+      rest = λ _. d.rest;
+      long = d.long;
+      within = omega (arith, (rw x.same at d.few), few, size_most g bits.generator x.passed.accepted x.prepared, room);
+      refused = λ z. absurd (z refl);
+    }
 
 -- ---- the part that is handed back
 

@@ -1,11 +1,13 @@
 -- What the basis calls promise.
-use Rattle.std.specs.Prelude.{◌≡◌, List, ℕ, ◌*◌, ◌^◌, ◌<◌, ◌≤◌, length, get_or, take, drop}
+use Rattle.std.specs.Prelude.{◌≡◌, List, ℕ, ◌*◌, ◌^◌, ◌<◌, ◌≤◌, length, get_or, take, drop, Result, Ok, Err}
 use Rattle.theory.specs.Def.{Spanned, Reduced}
 use Rattle.digits.specs.Def.{Word, Clear, bits_of}
 use Rattle.kinds.specs.Generator.{Machine}
 use Rattle.document.specs.declared.Fields.{Fields}
 use Rattle.document.specs.declared.Dimension.{Dimension}
 use Rattle.document.specs.declared.Resolution.{Resolution}
+use Rattle.document.specs.declared.refusals.Refusal.{Refusal}
+use Rattle.document.specs.Answer.{refusal_number}
 use Rattle.document.specs.Limits.{row_words, work_words}
 use Rattle.document.specs.Generator.{machine}
 use Rattle.document.specs.Refusals.{basis_refusal}
@@ -38,6 +40,11 @@ pub record Handed (g : Fields) (t : Dimension) (l : Resolution) (words : ℕ) (n
   pub count : words ≡ row_words * rank
   pub rows : BasisOf (machine g) t.0 l.0 rank (basis_row now)
   pub small : (i : ℕ) → i < words → get_or now i 0 < 2 ^ 64
+
+-- the reply in plain numbers: the words of the basis, and none with a refusal
+abbrev pub reply_of : Result ℕ Refusal → BasisReply
+reply_of (Ok words) = record { refusal = 0; words = words }
+reply_of (Err refusal) = record { refusal = refusal_number refusal; words = 0 }
 
 -- The lowest refusal, or the rows of the basis; then zeros up to the end of the work buffer, and further words as they were. With a refusal there are
 -- no words, and the buffer is as it was.

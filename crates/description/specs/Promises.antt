@@ -1,13 +1,20 @@
 -- What reading and writing promise.
-use Rattle.std.specs.Prelude.{◌≡◌, List, ◌++◌, ℕ, length, drop}
+use Rattle.std.specs.Prelude.{◌≡◌, List, ◌++◌, ℕ, length, drop, Result, Ok, Err}
 use Rattle.document.specs.declared.Fields.{Fields}
 use Rattle.document.specs.Description.{length_of, description, fields_of, no_fields}
 use Rattle.document.specs.Refusals.{read_refusal, write_refusal}
+use Rattle.document.specs.declared.refusals.Refusal.{Refusal}
+use Rattle.document.specs.Answer.{refusal_number}
 use Rattle.description.specs.declared.reading.Reading.{Reading}
 
 -- with a refusal all other numbers are 0
 abbrev pub refused_with : ℕ → Reading
 refused_with n = record { refusal = n; fields = no_fields }
+
+-- the reply that C gets, of what a parse answers
+abbrev pub reading_of : Result Fields Refusal → Reading
+reading_of (Ok fields) = record { refusal = 0; fields = fields }
+reading_of (Err refusal) = refused_with (refusal_number refusal)
 
 -- "Read takes bytes and gives the kind and the body's fields, those of other kinds zero", or the lowest refusal
 pub record ReadAs (bs : List ℕ) (r : Reading) : Type 0 where

@@ -5,5 +5,5 @@ mod numbers;
 mod reading;
 mod writing;
 
-pub use reading::{Reading, read};
+pub use reading::{Reading, parse, read};
 pub use writing::{length_of, write};

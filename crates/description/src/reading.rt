@@ -1,14 +1,17 @@
-// Read: any bytes to a refusal, or to the kind and the fields.
-ghost use Rattle.std.specs.Prelude.{◌≡◌, ◌≤◌, length, get_or};
-ghost use Rattle.document.specs.Description.{length_of, fields_of, no_fields};
-ghost use Rattle.description.specs.Promises.{ReadAs, refused_with};
+// Read: any bytes to a refusal, or to the kind and the fields. A function for each kind, since the bodies differ in which fields stand where.
+ghost use Rattle.std.specs.Prelude.{◌≡◌, IfOk, length, get_or};
+ghost use Rattle.document.specs.Answer.{column, refusal_of};
+ghost use Rattle.document.specs.declared.kind.Kind.TheVariants.{Tausworthe, Gfsr, Twisted, Mersenne};
+ghost use Rattle.document.specs.Description.{length_of, fields_of};
+ghost use Rattle.document.specs.Refusals.{read_refusal};
+ghost use Rattle.description.specs.Promises.{ReadAs, reading_of};
 
 use crate::numbers::{coefficients, number2, number4};
 use crate::writing::length_of;
-use document::{COEFFICIENT_BYTES, Fields};
-use fields::{outside, range_refusal};
+use document::{Fields, Kind, Refusal};
+use fields::range_refusal;
 
-// The answer of a reading: 0 and the fields, or a refusal and no fields.
+// The answer of a reading: 0 and the fields, or a refusal and no fields. C gets this struct, so the number stays beside the fields.
 #[repr(C)]
 #[derive(Clone, Copy)]
 pub struct Reading {
@@ -16,145 +19,136 @@ pub struct Reading {
     pub fields: Fields,
 }
 
-// No fields at all.
-fn no_fields() -> Fields
-    ensures { result ≡ no_fields }
-{
-    Fields {
-        kind: 0,
-        k: 0,
-        nu: 0,
-        r: 0,
-        m: 0,
-        w: 0,
-        p: 0,
-        bits: 0,
-        a: 0,
-        u: 0,
-        s: 0,
-        b: 0,
-        t: 0,
-        c: 0,
-        v: 0,
-        coefficients: [0u8; COEFFICIENT_BYTES],
-    }
-}
+impl From<Result<Fields, Refusal>> for Reading {
+    ghost from_gives = { λ answer reading. reading ≡ reading_of answer };
 
-fn refused(refusal: u32) -> Reading
-    ensures { result ≡ refused_with refusal }
-{
-    let fields = no_fields();
-    Reading { refusal, fields }
+    fn from(answer: Result<Fields, Refusal>) -> Reading {
+        match answer {
+            Ok(fields) => Reading { refusal: 0, fields },
+            Err(refusal) => Reading {
+                refusal: u32::from(refusal),
+                fields: Fields::NONE,
+            },
+        }
+    }
 }
 
 // The fields in the bytes of kind 1.
+#[tactic(auto, using(document::proofs::Columns::at_column), unfolding(document::specs::Description::fields_of))]
 fn tausworthe(bytes: &[u8]) -> Fields
-    requires { (get_or bytes.now 0 0 ≡ 1) × (length bytes.now ≡ 65) }
+    requires kind { column (get_or bytes.now 0 0) ≡ Tausworthe }
+    requires long { length bytes.now ≡ 65 }
     ensures { result ≡ fields_of bytes.now }
 {
-    let mut g = no_fields();
-    g.kind = bytes[0];
-    g.k = number2(bytes, 1);
-    g.bits = bytes[3];
-    g.nu = bytes[4];
-    let last = coefficients(bytes);
-    g.coefficients = last;
-    g
+    Fields {
+        kind: bytes[0],
+        k: number2(bytes, 1),
+        bits: bytes[3],
+        nu: bytes[4],
+        coefficients: coefficients(bytes),
+        ..Fields::NONE
+    }
 }
 
 // The fields in the bytes of kind 2.
+#[tactic(auto, using(document::proofs::Columns::at_column), unfolding(document::specs::Description::fields_of))]
 fn gfsr(bytes: &[u8]) -> Fields
-    requires { (get_or bytes.now 0 0 ≡ 2) × (length bytes.now ≡ 65) }
+    requires kind { column (get_or bytes.now 0 0) ≡ Gfsr }
+    requires long { length bytes.now ≡ 65 }
     ensures { result ≡ fields_of bytes.now }
 {
-    let mut g = no_fields();
-    g.kind = bytes[0];
-    g.r = number2(bytes, 1);
-    g.w = bytes[3];
-    g.bits = bytes[4];
-    let last = coefficients(bytes);
-    g.coefficients = last;
-    g
+    Fields {
+        kind: bytes[0],
+        r: number2(bytes, 1),
+        w: bytes[3],
+        bits: bytes[4],
+        coefficients: coefficients(bytes),
+        ..Fields::NONE
+    }
 }
 
 // The fields in the bytes of kind 3.
+#[tactic(auto, using(document::proofs::Columns::at_column), unfolding(document::specs::Description::fields_of))]
 fn twisted(bytes: &[u8]) -> Fields
-    requires { (get_or bytes.now 0 0 ≡ 3) × (length bytes.now ≡ 21) }
+    requires kind { column (get_or bytes.now 0 0) ≡ Twisted }
+    requires long { length bytes.now ≡ 21 }
     ensures { result ≡ fields_of bytes.now }
 {
-    let mut g = no_fields();
-    g.kind = bytes[0];
-    g.r = number2(bytes, 1);
-    g.m = number2(bytes, 3);
-    g.w = bytes[5];
-    g.bits = bytes[6];
-    g.a = number4(bytes, 7);
-    g.s = bytes[11];
-    g.t = bytes[12];
-    g.b = number4(bytes, 13);
-    g.c = number4(bytes, 17);
-    g
+    Fields {
+        kind: bytes[0],
+        r: number2(bytes, 1),
+        m: number2(bytes, 3),
+        w: bytes[5],
+        bits: bytes[6],
+        a: number4(bytes, 7),
+        s: bytes[11],
+        t: bytes[12],
+        b: number4(bytes, 13),
+        c: number4(bytes, 17),
+        ..Fields::NONE
+    }
 }
 
 // The fields in the bytes of kind 4.
+#[tactic(auto, using(document::proofs::Columns::at_column), unfolding(document::specs::Description::fields_of))]
 fn mersenne(bytes: &[u8]) -> Fields
-    requires { (get_or bytes.now 0 0 ≡ 4) × (length bytes.now ≡ 24) }
+    requires kind { column (get_or bytes.now 0 0) ≡ Mersenne }
+    requires long { length bytes.now ≡ 24 }
     ensures { result ≡ fields_of bytes.now }
 {
-    let mut g = no_fields();
-    g.kind = bytes[0];
-    g.r = number2(bytes, 1);
-    g.m = number2(bytes, 3);
-    g.w = bytes[5];
-    g.p = bytes[6];
-    g.bits = bytes[7];
-    g.a = number4(bytes, 8);
-    g.u = bytes[12];
-    g.s = bytes[13];
-    g.b = number4(bytes, 14);
-    g.t = bytes[18];
-    g.c = number4(bytes, 19);
-    g.v = bytes[23];
-    g
+    Fields {
+        kind: bytes[0],
+        r: number2(bytes, 1),
+        m: number2(bytes, 3),
+        w: bytes[5],
+        p: bytes[6],
+        bits: bytes[7],
+        a: number4(bytes, 8),
+        u: bytes[12],
+        s: bytes[13],
+        b: number4(bytes, 14),
+        t: bytes[18],
+        c: number4(bytes, 19),
+        v: bytes[23],
+        ..Fields::NONE
+    }
 }
 
-// The fields of a description whose kind and length are right.
+// The fields of a description whose length is right.
+#[tactic(auto, using(document::proofs::Columns::at_column, crate::proofs::Laws::length_some))]
 fn fields_of(bytes: &[u8]) -> Fields
-    requires { (1 ≤ get_or bytes.now 0 0) × (get_or bytes.now 0 0 ≤ 4) × (length bytes.now ≡ length_of (get_or bytes.now 0 0)) × (1 ≤ length bytes.now) }
+    requires { length bytes.now ≡ length_of (get_or bytes.now 0 0) }
     ensures { result ≡ fields_of bytes.now }
 {
-    let kind = bytes[0];
-    if kind == 1 {
-        return tausworthe(bytes);
+    match Kind::column(bytes[0]) {
+        Kind::Tausworthe => tausworthe(bytes),
+        Kind::Gfsr => gfsr(bytes),
+        Kind::Twisted => twisted(bytes),
+        Kind::Mersenne => mersenne(bytes),
     }
-    if kind == 2 {
-        return gfsr(bytes);
+}
+
+// The fields in a description, or why it is refused.
+pub fn parse(bytes: &[u8]) -> Result<Fields, Refusal>
+    ensures number { refusal_of result ≡ read_refusal bytes.now }
+    ensures accepted { IfOk result (λ fields. fields ≡ fields_of bytes.now) }
+{
+    let Some(&kind) = bytes.first() else {
+        return Err(Refusal::Kind);
+    };
+    // From here on the byte is known to name a kind, which `length_of` and `fields_of` ask of it.
+    Kind::try_from(kind)?;
+    if bytes.len() != length_of(kind) {
+        return Err(Refusal::Length);
     }
-    if kind == 3 {
-        return twisted(bytes);
-    }
-    mersenne(bytes)
+    let g = fields_of(bytes);
+    range_refusal(g)?;
+    Ok(g)
 }
 
 // Reads a description.
 pub fn read(bytes: &[u8]) -> Reading
     ensures { ReadAs bytes.now result }
 {
-    let n = bytes.len();
-    if n == 0 {
-        return refused(1);
-    }
-    let kind = bytes[0];
-    if outside(1, 4, kind as usize) {
-        return refused(1);
-    }
-    if n != length_of(kind) {
-        return refused(2);
-    }
-    let fields = fields_of(bytes);
-    let refusal = range_refusal(fields);
-    if refusal != 0 {
-        return refused(refusal);
-    }
-    Reading { refusal, fields }
+    Reading::from(parse(bytes))
 }

@@ -1,140 +1,86 @@
-// Write: the description of a generator at the front of a lent buffer.
-ghost use Rattle.std.specs.Prelude.{◌≡◌, List, ◌∷◌, [], ◌++◌, length, drop, get_or, ◌+◌, ◌≤◌, ◌<◌};
-ghost use Rattle.document.specs.Limits.{coefficient_bytes};
+// Write: the description of a generator at the front of a lent buffer. A function for each layout of the body.
+ghost use Rattle.std.specs.Prelude.{◌≡◌, ◌∷◌, ◌++◌, length, drop, ◌≤◌};
+ghost use Rattle.document.specs.Answer.{column, refusal_of};
+ghost use Rattle.document.specs.declared.kind.Kind.TheVariants.{Tausworthe, Gfsr, Twisted, Mersenne};
 ghost use Rattle.document.specs.Description.{bytes, length_of, description};
 ghost use Rattle.document.specs.Refusals.{write_refusal};
 ghost use Rattle.description.specs.Promises.{WrittenAs};
 
-use crate::numbers::{byte, byte0, byte1, byte2, byte3, high, low};
-use document::{COEFFICIENT_BYTES, Fields};
+use document::{Fields, Kind, Refusal, refusal_of};
 use fields::field_refusal;
 
-// The length of a description of this kind.
+// The length of a description of this kind; a byte and no `Kind`, since it promises a length for every byte.
+#[tactic(auto, using(document::proofs::Columns::in_column))]
 pub fn length_of(kind: u8) -> usize
     ensures { result ≡ length_of kind }
 {
-    if kind == 1 {
-        return 65;
+    match Kind::column(kind) {
+        Kind::Tausworthe | Kind::Gfsr => 65,
+        Kind::Twisted => 21,
+        Kind::Mersenne => 24,
     }
-    if kind == 2 {
-        return 65;
-    }
-    if kind == 3 {
-        return 21;
-    }
-    24
 }
 
-// What stands before the coefficients, in kinds 1 and 2: the kind, a number of two bytes and two of one.
-fn head(kind: u8, size: u16, first: u8, second: u8) -> [u8; 5]
-    ensures { result ≡ kind ∷ (bytes 2 size ++ (bytes 1 first ++ bytes 1 second)) }
+// The kind, a number of two bytes and two of one, and the coefficients: a description of kind 1 or 2.
+#[tactic(auto, unfolding(document::specs::Description::bytes))]
+fn long(g: Fields, size: u16, first: u8, second: u8) -> [u8; 65]
+    ensures { result ≡ g.kind ∷ (bytes 2 size ++ (bytes 1 first ++ (bytes 1 second ++ g.coefficients))) }
 {
-    [kind, high(size), low(size), byte(first), byte(second)]
+    let [high, low] = size.to_be_bytes();
+    let mut d = [0; 65];
+    d[..5].copy_from_slice(&[g.kind, high, low, first, second]);
+    d[5..].copy_from_slice(&g.coefficients);
+    d
+}
+
+// The bytes of a generator of kind 1.
+#[tactic(auto, using(document::proofs::Columns::at_column), unfolding(document::specs::Description::description, document::specs::Description::bytes))]
+fn tausworthe(g: Fields) -> [u8; 65]
+    requires { column g.kind ≡ Tausworthe }
+    ensures { result ≡ description g }
+{
+    long(g, g.k, g.bits, g.nu)
+}
+
+// The bytes of a generator of kind 2.
+#[tactic(auto, using(document::proofs::Columns::at_column), unfolding(document::specs::Description::description, document::specs::Description::bytes))]
+fn gfsr(g: Fields) -> [u8; 65]
+    requires { column g.kind ≡ Gfsr }
+    ensures { result ≡ description g }
+{
+    long(g, g.r, g.w, g.bits)
 }
 
 // The bytes of a generator of kind 3.
 fn twisted(g: Fields) -> [u8; 21]
-    requires { g.kind ≡ 3 }
+    requires { column g.kind ≡ Twisted }
     ensures { result ≡ description g }
 {
+    let [r1, r0] = g.r.to_be_bytes();
+    let [m1, m0] = g.m.to_be_bytes();
+    let [a3, a2, a1, a0] = g.a.to_be_bytes();
+    let [b3, b2, b1, b0] = g.b.to_be_bytes();
+    let [c3, c2, c1, c0] = g.c.to_be_bytes();
     [
-        g.kind,
-        high(g.r),
-        low(g.r),
-        high(g.m),
-        low(g.m),
-        byte(g.w),
-        byte(g.bits),
-        byte3(g.a),
-        byte2(g.a),
-        byte1(g.a),
-        byte0(g.a),
-        byte(g.s),
-        byte(g.t),
-        byte3(g.b),
-        byte2(g.b),
-        byte1(g.b),
-        byte0(g.b),
-        byte3(g.c),
-        byte2(g.c),
-        byte1(g.c),
-        byte0(g.c),
+        g.kind, r1, r0, m1, m0, g.w, g.bits, a3, a2, a1, a0, g.s, g.t, b3, b2, b1, b0, c3, c2, c1,
+        c0,
     ]
 }
 
 // The bytes of a generator of kind 4.
 fn mersenne(g: Fields) -> [u8; 24]
-    requires { g.kind ≡ 4 }
+    requires { column g.kind ≡ Mersenne }
     ensures { result ≡ description g }
 {
+    let [r1, r0] = g.r.to_be_bytes();
+    let [m1, m0] = g.m.to_be_bytes();
+    let [a3, a2, a1, a0] = g.a.to_be_bytes();
+    let [b3, b2, b1, b0] = g.b.to_be_bytes();
+    let [c3, c2, c1, c0] = g.c.to_be_bytes();
     [
-        g.kind,
-        high(g.r),
-        low(g.r),
-        high(g.m),
-        low(g.m),
-        byte(g.w),
-        byte(g.p),
-        byte(g.bits),
-        byte3(g.a),
-        byte2(g.a),
-        byte1(g.a),
-        byte0(g.a),
-        byte(g.u),
-        byte(g.s),
-        byte3(g.b),
-        byte2(g.b),
-        byte1(g.b),
-        byte0(g.b),
-        byte(g.t),
-        byte3(g.c),
-        byte2(g.c),
-        byte1(g.c),
-        byte0(g.c),
-        byte(g.v),
+        g.kind, r1, r0, m1, m0, g.w, g.p, g.bits, a3, a2, a1, a0, g.u, g.s, b3, b2, b1, b0, g.t,
+        c3, c2, c1, c0, g.v,
     ]
-}
-
-// A byte of a head with the coefficients behind it.
-fn long_byte(head: [u8; 5], coefficients: [u8; COEFFICIENT_BYTES], i: usize) -> u8
-    requires { i < 5 + coefficient_bytes }
-    ensures { result ≡ get_or (head ++ coefficients) i 0 }
-{
-    if i < 5 {
-        return head[i];
-    }
-    coefficients[i - 5]
-}
-
-// A head with the coefficients behind it.
-fn long(head: [u8; 5], coefficients: [u8; COEFFICIENT_BYTES]) -> [u8; 65]
-    ensures { result ≡ head ++ coefficients }
-{
-    let mut r = [0u8; 65];
-    for i in 0..65 {
-        r[i] = long_byte(head, coefficients, i);
-    }
-    r
-}
-
-// The bytes of a generator of kind 1.
-fn tausworthe(g: Fields) -> [u8; 65]
-    requires { g.kind ≡ 1 }
-    ensures { result ≡ description g }
-{
-    let first = head(g.kind, g.k, g.bits, g.nu);
-    let coefficients = g.coefficients;
-    long(first, coefficients)
-}
-
-// The bytes of a generator of kind 2.
-fn gfsr(g: Fields) -> [u8; 65]
-    requires { g.kind ≡ 2 }
-    ensures { result ≡ description g }
-{
-    let first = head(g.kind, g.r, g.w, g.bits);
-    let coefficients = g.coefficients;
-    long(first, coefficients)
 }
 
 // Puts bytes at the front of a buffer that has room for them.
@@ -145,52 +91,43 @@ fn put_front(bytes: &[u8], out: &mut [u8])
     out[..bytes.len()].copy_from_slice(bytes);
 }
 
-// Puts the description of an accepted generator.
+// Puts the description of a generator into a buffer that has room for it.
+#[tactic(auto, using(document::proofs::Columns::at_column))]
 fn put(g: Fields, out: &mut [u8])
-    requires { (1 ≤ g.kind) × (g.kind ≤ 4) × (length_of g.kind ≤ length out.old) }
+    requires { length_of g.kind ≤ length out.old }
     ensures { out.new ≡ description g ++ drop (length_of g.kind) out.old }
 {
-    let kind = g.kind;
-    if kind == 1 {
-        let d = tausworthe(g);
-        put_front(&d, out);
-        return;
+    match Kind::column(g.kind) {
+        Kind::Tausworthe => put_front(&tausworthe(g), out),
+        Kind::Gfsr => put_front(&gfsr(g), out),
+        Kind::Twisted => put_front(&twisted(g), out),
+        Kind::Mersenne => put_front(&mersenne(g), out),
     }
-    if kind == 2 {
-        let d = gfsr(g);
-        put_front(&d, out);
-        return;
-    }
-    if kind == 3 {
-        let d = twisted(g);
-        put_front(&d, out);
-        return;
-    }
-    let d = mersenne(g);
-    put_front(&d, out);
 }
 
 // What refuses to write: the fields, then the room.
-fn write_refusal(g: Fields, room: usize) -> u32
-    ensures { result ≡ write_refusal g room }
+fn write_refusal(g: Fields, room: usize) -> Result<(), Refusal>
+    ensures { refusal_of result ≡ write_refusal g room }
 {
-    let refusal = field_refusal(g);
-    if refusal != 0 {
-        return refusal;
-    }
+    field_refusal(g)?;
     if room < length_of(g.kind) {
-        return 11;
+        return Err(Refusal::Room);
     }
-    0
+    Ok(())
 }
 
 // Writes the description at the front of `out`, or says why not and leaves it.
+fn written(g: Fields, out: &mut [u8]) -> Result<(), Refusal>
+    ensures { WrittenAs g out.old (refusal_of result) out.new }
+{
+    write_refusal(g, out.len())?;
+    put(g, out);
+    Ok(())
+}
+
+// The same, with the refusal as its number, which C gets.
 pub fn write(g: Fields, out: &mut [u8]) -> u32
     ensures { WrittenAs g out.old result out.new }
 {
-    let refusal = write_refusal(g, out.len());
-    if refusal == 0 {
-        put(g, out);
-    }
-    refusal
+    refusal_of(written(g, out))
 }

@@ -1,6 +1,12 @@
 // What document 01 names: the limits, and the fields of a description. Its sentences stand in specs/, a file for each heading.
 #![tactic(auto)]
 
+mod kind;
+mod refusals;
+
+pub use kind::Kind;
+pub use refusals::{Refusal, refusal_of};
+
 // The most state bits of a generator, and the words of 64 bits that hold them.
 pub const MOST_BITS: usize = 480;
 
@@ -26,6 +32,7 @@ pub struct Resolution(pub usize);
 #[repr(C)]
 #[derive(Clone, Copy)]
 pub struct Fields {
+    // A byte still, since C fills this struct: `Kind::try_from` says which kind it names.
     pub kind: u8,
     // Kind 1: state bits and steps between outputs.
     pub k: u16,
@@ -47,4 +54,26 @@ pub struct Fields {
     pub v: u8,
     // Kinds 1 and 2: a_1 is the bit of value 128 in the first byte.
     pub coefficients: [u8; COEFFICIENT_BYTES],
+}
+
+impl Fields {
+    // No fields at all: what a refused reading gives.
+    pub const NONE: Fields = Fields {
+        kind: 0,
+        k: 0,
+        nu: 0,
+        r: 0,
+        m: 0,
+        w: 0,
+        p: 0,
+        bits: 0,
+        a: 0,
+        u: 0,
+        s: 0,
+        b: 0,
+        t: 0,
+        c: 0,
+        v: 0,
+        coefficients: [0; COEFFICIENT_BYTES],
+    };
 }

@@ -89,13 +89,12 @@ flipped-bit ws at i j h =
 
 -- ---- the leading bit
 
-module _ (ws : List ℕ) (at k : ℕ) (z : Zero (64 * k) (bits_from ws at)) where
-  pub zero_more : get_or ws (at + k) 0 ≡ 0 → Zero (64 * (k + 1)) (bits_from ws at)
-  zero_more e j h =
-      by_cases (dec_lt j (64 * k))
-      (λ l. z j l)
-      (λ g. let q : j / 64 ≡ k = omega arith in bits_zero ws at j (rw q e))
+-- the words from `from` to k are zero, as those before are
+pub zero_words : (ws : List ℕ) (at from k : ℕ) → Zero (64 * from) (bits_from ws at) → ((j : ℕ) → from ≤ j → j < k → get_or ws (at + j) 0 ≡ 0) → Zero (64 * k) (bits_from ws at)
+zero_words ws at from k z e j h =
+    by_cases (dec_lt j (64 * from)) (λ l. z j l) (λ g. bits_zero ws at j (e (j / 64) (omega arith) (omega arith)))
 
+module _ (ws : List ℕ) (at k : ℕ) (z : Zero (64 * k) (bits_from ws at)) where
   pub leading_found : (lead t : ℕ) → k < lead → LowestDigit 64 (get_or ws (at + k) 0) t → Leading (64 * lead) (bits_from ws at) (64 * k + t)
   unfolding bits_from
   leading_found lead t h r =

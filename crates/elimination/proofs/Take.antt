@@ -2,7 +2,7 @@
 use mathlib.Core.Path.{◌≡◌, refl, sym, ◌∙◌}
 use mathlib.Core.Logic.{by_cases}
 use mathlib.Core.List.{List}
-use mathlib.Core.Bool.{Bool, true, false, not, true≢false, false≢true}
+use mathlib.Core.Bool.{Bool, true, false, true≢false, false≢true}
 use Prim.Native.Nat.{ℕ, ◌+◌, ◌*◌, ◌≤◌, ◌<◌}
 use native.Mathlib.Nat.{add-mul, zero-add}
 use native.Mathlib.Numerals.{add-one}
@@ -13,8 +13,8 @@ use lib.Seq.{get_or-set_same, get_or-set_other}
 use Rattle.digits.specs.Def.{Word}
 use Rattle.span.specs.Def.{Slotted, Eliminated}
 use Rattle.span.specs.Spans.{plus_same}
-use Rattle.span.specs.Leads.{eliminated_start, eliminated_same, eliminated_row, slotted_same, slotted_more}
-use Rattle.elimination.specs.Words.{Kept, Cleared}
+use Rattle.span.specs.Leads.{eliminated_start, eliminated_row, slotted_same, slotted_more}
+use Rattle.elimination.specs.Words.{Cleared}
 use Rattle.elimination.specs.Rows.{rows_of, slot_of, Reduced, SlotsKept, Taken, Eliminating, Finished}
 use Rattle.elimination.proofs.Words.{row_end}
 use Rattle.elimination.proofs.RowBits.{bits_same, others_same}
@@ -49,17 +49,6 @@ module _ (ws : List ℕ) (r stride width lead : ℕ) (slots out : List ℕ) (b :
         no = λ _. (λ i l. x.leading.lower i (omega arith), still);
       }
 
--- ---- the start, and a row made anew, for a caller that makes its rows one by one
-
-pub cleared_start : {slots cleared : List ℕ} (W lead : ℕ) (old row : ℕ → Word) → Cleared slots 0 (64 * lead) cleared → Eliminated (64 * lead) W 0 0 old row (slot_of cleared)
-cleared_start {cleared = cleared} W lead old row x = eliminated_start old row (slot_of cleared) (λ b h. rw zero-add at (x.here b h))
-
--- row r changes: the rows before it are eliminated as they were
-pub row_made : {ws out : List ℕ} {r stride width lead : ℕ} {slot : ℕ → ℕ} (old : ℕ → Word) → lead ≤ width → width ≤ stride → Kept ws (r * stride) width out
-    → Eliminated (64 * lead) (64 * width) r r old (rows_of ws stride) slot → Eliminated (64 * lead) (64 * width) r r old (rows_of out stride) slot
-row_made {out = out} {r = r} {stride = stride} {width = width} old lw wl k x =
-    eliminated_same (rows_of out stride) (omega arith) (λ p h i l. others_same r stride width k wl p (omega arith) i l) x
-
 -- ---- one row more, for any rows `old` of which row r stands in the buffer
 
 module _ {ws : List ℕ} {r stride width lead : ℕ} {slots out slots' : List ℕ} {t : Bool} (old : ℕ → Word) (lw : lead ≤ width) (wl : width ≤ stride)
@@ -89,7 +78,7 @@ pub eliminating_start : (ws : List ℕ) (stride width lead : ℕ) (slots cleared
 eliminating_start ws stride width lead slots cleared x =
     record {
       long = refl;
-      rows = cleared_start (64 * width) lead (rows_of ws stride) (rows_of ws stride) x;
+      rows = eliminated_start (rows_of ws stride) (rows_of ws stride) (slot_of cleared) (λ b h. rw zero-add at (x.here b h));
       between = λ p k h l m. refl;
       behind = λ j h. refl;
     }
@@ -132,13 +121,3 @@ pub finish : (ws : List ℕ) (rows stride width lead : ℕ) (slots cleared out s
     → Eliminating ws rows rows stride width lead out slots' → Finished ws rows stride width lead slots out slots'
 finish ws rows stride width lead slots cleared out slots' k y x =
     record { state = x; slots_kept = slots_again (slots_cleared slots (64 * lead) cleared k) y }
-
--- ---- the test `!take_row(..)`
-
-pub not-true : (t : Bool) → not t ≡ true → t ≡ false
-not-true true e = absurd (false≢true e)
-not-true false e = refl
-
-pub not-false : (t : Bool) → not t ≡ false → t ≡ true
-not-false true e = refl
-not-false false e = absurd (true≢false e)

@@ -6,9 +6,11 @@ use Prim.Native.Nat.{ℕ, ◌-◌, ◌+◌, ◌*◌, ◌/◌, ◌≤◌, ◌<◌
 use native.Mathlib.Nat.{mul-le-mul_right, suc-mul}
 use native.Mathlib.Decide.{dec_lt}
 use native.Mathlib.Omega.{arith}
-use lib.ListN.{length, get_or, set, length-set}
+use lib.ListN.{length, get_or, set, take, drop, replicate, length-set}
+use Rattle.std.proofs.Common.{◌++◌}
+use Rattle.std.proofs.lemmas.Grind.{common_steps}
 use lib.Seq.{get_or-set_same, get_or-set_other}
-use Rattle.elimination.specs.Words.{Apart, Kept, Written, flipped}
+use Rattle.elimination.specs.Words.{Apart, Kept, Written, Cleared, flipped}
 
 -- an earlier row ends before a later one begins
 pub row_end : (p r stride width : ℕ) → p < r → width ≤ stride → p * stride + width ≤ r * stride
@@ -61,6 +63,19 @@ module _ {ws : List ℕ} {at : ℕ} {v : ℕ → ℕ} where
   pub written_apart : {buf : List ℕ} {k : ℕ} (b n : ℕ) → k < n → Apart at b n → Written ws at k v buf → get_or buf (b + k) 0 ≡ get_or ws (b + k) 0
   written_apart {k = k} b n l (inl p) x = x.kept.above (b + k) (omega arith)
   written_apart {k = k} b n l (inr p) x = x.kept.below (b + k) (omega arith)
+
+-- the first n words of a list give way to zeros
+pub cleared_front : {front ws : List ℕ} {n : ℕ} → n ≤ length ws → front ≡ replicate (length (take n ws)) 0 → Cleared ws 0 n (front ++ drop n ws)
+cleared_front {front} {ws} {n} h e =
+    record {
+      kept =
+          record {
+            long = grind (arith, common_steps);
+            below = λ j l. absurd (omega arith);
+            above = λ j l. grind (arith, common_steps);
+          };
+      here = λ k l. grind (arith, common_steps);
+    }
 
 -- ---- a flip
 

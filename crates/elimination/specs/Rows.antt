@@ -1,10 +1,8 @@
 -- Rows in a buffer, and what elimination does to it.
-use Rattle.std.specs.Prelude.{◌≡◌, List, Bool, true, false, ℕ, ◌+◌, ◌-◌, ◌*◌, ◌<◌, ◌≤◌, length, get_or}
+use Rattle.std.specs.Prelude.{◌≡◌, List, Bool, true, false, ℕ, ◌+◌, ◌-◌, ◌*◌, ◌<◌, ◌≤◌, Option, Some, None, length, get_or}
 use Rattle.digits.specs.Def.{Word, bits_from}
 use Rattle.span.specs.Def.{Zero, Plus, Leading, Slotted, Eliminated, Tagged}
 use Rattle.elimination.specs.Words.{Kept}
-use Rattle.elimination.specs.declared.Found.{Found}
-use Rattle.elimination.specs.declared.Found.TheVariants.{At, Nothing}
 
 -- the rows of a buffer, each `stride` words after the one before
 abbrev pub rows_of : List ℕ → ℕ → ℕ → Word
@@ -58,9 +56,9 @@ pub record Finished (ws : List ℕ) (rows stride width lead : ℕ) (slots out sl
   pub state : Eliminating ws rows rows stride width lead out slots'
   pub slots_kept : SlotsKept (64 * lead) slots slots'
 
-abbrev pub Outcome : List ℕ → ℕ → ℕ → ℕ → ℕ → List ℕ → List ℕ → List ℕ → Found → Type 0
-Outcome ws rows stride width lead slots out slots' (At d) = Stopped ws rows stride width lead slots out slots' d
-Outcome ws rows stride width lead slots out slots' Nothing = Finished ws rows stride width lead slots out slots'
+abbrev pub Outcome : List ℕ → ℕ → ℕ → ℕ → ℕ → List ℕ → List ℕ → List ℕ → Option ℕ → Type 0
+Outcome ws rows stride width lead slots out slots' (Some d) = Stopped ws rows stride width lead slots out slots' d
+Outcome ws rows stride width lead slots out slots' None = Finished ws rows stride width lead slots out slots'
 
 -- the first n rows carry the sets of themselves alone in their words from `lead` to `width`; all other words are as they were
 pub record Tagging (ws : List ℕ) (n stride width lead : ℕ) (out : List ℕ) : Type 0 where

@@ -1,5 +1,5 @@
 -- What the functions on words do to a list of words.
-use Rattle.std.specs.Prelude.{◌≡◌, ◌⊎◌, List, ℕ, ◌+◌, ◌/◌, ◌%◌, ◌^◌, ◌<◌, ◌≤◌, length, get_or, set}
+use Rattle.std.specs.Prelude.{Option, MatchOption, ◌≡◌, ◌⊎◌, List, ℕ, ◌+◌, ◌/◌, ◌%◌, ◌^◌, ◌<◌, ◌≤◌, length, get_or, set}
 use Rattle.std.specs.Int.Bits.{bit_xor}
 
 -- two ranges of n words have none in common
@@ -24,6 +24,12 @@ Added ws dst src n out = Written ws dst n (λ k. bit_xor (get_or ws (dst + k) 0)
 -- the n words at `at` are zero
 abbrev pub Cleared : List ℕ → ℕ → ℕ → List ℕ → Type 0
 Cleared ws at n out = Written ws at n (λ k. 0) out
+
+-- the first word from `from` on, of the `lead` words at `at`, that is not zero
+abbrev pub FirstWord : List ℕ → ℕ → ℕ → ℕ → Option ℕ → Type 0
+FirstWord ws at from lead r =
+    MatchOption r ((j : ℕ) → from ≤ j → j < lead → get_or ws (at + j) 0 ≡ 0)
+    (λ k. (from ≤ k) × (k < lead) × ¬ (get_or ws (at + k) 0 ≡ 0) × ((j : ℕ) → from ≤ j → j < k → get_or ws (at + j) 0 ≡ 0))
 
 -- bit i of the row at word `at` is flipped
 unfoldable pub flipped : List ℕ → ℕ → ℕ → List ℕ

@@ -1,7 +1,6 @@
 -- What is answered in each case.
 use mathlib.Core.Path.{◌≡◌, refl}
 use mathlib.Core.List.{List}
-use mathlib.Core.Bool.{Bool, true, false, true≢false, false≢true}
 use Prim.Native.Nat.{ℕ, ◌*◌, ◌/◌, ◌<◌}
 use native.Mathlib.Omega.{arith}
 use lib.ListN.{length}
@@ -9,26 +8,10 @@ use Rattle.span.specs.Leads.{dependent_same, independent_same}
 use Rattle.elimination.specs.Rows.{rows_of, Outcome, Tagging}
 use Rattle.elimination.specs.Theorems.{finished_independent, stopped_independent, stopped_set, stopped_set_ends}
 use Rattle.elimination.proofs.RowBits.{bits_same}
-use Rattle.elimination.specs.declared.Found.{Found}
-use Rattle.elimination.specs.declared.Found.TheVariants.{At, Nothing}
+use Rattle.std.specs.Prelude.{Option, Some, None, unwrap_or}
 use Rattle.reduction.specs.Columns.{ReducedForm}
 use Rattle.reduction.specs.Packs.{Packed}
-use Rattle.engine.specs.Answers.{Tells, Fits, Sized, Roomy, Eliminates, FirstSets, Bases, number_of, bad}
-
--- ---- the test `!t`
-
-pub told_no : (t : Bool) {A : Type 0} → t ≡ false → Tells t A → ¬ A
-told_no true e x = absurd (true≢false e)
-told_no false e x = x
-
-pub told_yes : (t : Bool) {A : Type 0} → t ≡ true → Tells t A → A
-told_yes true e x = x
-told_yes false e x = absurd (false≢true e)
-
--- what is left of a question
-pub told_rest : (t : Bool) {A B : Type 0} → (A → B) → (B → A) → Tells t A → Tells t B
-told_rest true f g x = f x
-told_rest false f g x = λ b. x (g b)
+use Rattle.engine.specs.Answers.{Fits, Sized, Roomy, Eliminates, FirstSets, Bases, bad}
 
 module _ (ws : List ℕ) (rows stride width lead : ℕ) (slots : List ℕ) where
   -- ---- without sets
@@ -37,16 +20,16 @@ module _ (ws : List ℕ) (rows stride width lead : ℕ) (slots : List ℕ) where
   refused n =
       record { within = λ s. absurd (n s); found = λ s. absurd (n s); none = λ s. absurd (n s); refused = λ _. (refl, refl, refl) }
 
-  pub answered : (out slots' : List ℕ) (f : Found) → Sized (length ws) (length slots) rows stride width lead → Outcome ws rows stride width lead slots out slots' f
-      → Eliminates ws rows stride width lead slots out slots' (number_of rows f)
-  answered out slots' (At d) s x =
+  pub answered : (out slots' : List ℕ) (f : Option ℕ) → Sized (length ws) (length slots) rows stride width lead → Outcome ws rows stride width lead slots out slots' f
+      → Eliminates ws rows stride width lead slots out slots' (unwrap_or f rows)
+  answered out slots' (Some d) s x =
       record {
         within = λ _. omega (arith, x.place);
         found = λ _ _. x;
         none = λ _ e. absurd (omega (arith, x.place));
         refused = λ n. absurd (n s);
       }
-  answered out slots' Nothing s x =
+  answered out slots' None s x =
       record { within = λ _. omega arith; found = λ _ l. absurd (omega arith); none = λ _ _. x; refused = λ n. absurd (n s) }
 
   -- ---- with sets
@@ -63,8 +46,8 @@ module _ (ws : List ℕ) (rows stride width lead : ℕ) (slots : List ℕ) where
         same : {a b : ℕ} → a ≡ b → b ≡ a
         same e = rw e
 
-    pub set_answered : (out slots' : List ℕ) (f : Found) → Outcome mid rows stride width lead slots out slots' f → FirstSets ws rows stride width lead slots out slots' (number_of rows f)
-    set_answered out slots' (At d) x =
+    pub set_answered : (out slots' : List ℕ) (f : Option ℕ) → Outcome mid rows stride width lead slots out slots' f → FirstSets ws rows stride width lead slots out slots' (unwrap_or f rows)
+    set_answered out slots' (Some d) x =
         record {
           within = λ _. omega (arith, x.place);
           found = λ _ _.
@@ -77,7 +60,7 @@ module _ (ws : List ℕ) (rows stride width lead : ℕ) (slots : List ℕ) where
           none = λ _ e. absurd (omega (arith, x.place));
           refused = λ n. absurd (n (s, room));
         }
-    set_answered out slots' Nothing x =
+    set_answered out slots' None x =
         record {
           within = λ _. omega arith;
           found = λ _ l. absurd (omega arith);

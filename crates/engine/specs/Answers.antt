@@ -1,16 +1,14 @@
 -- What the functions of the boundary answer.
-use Rattle.std.specs.Prelude.{◌≡◌, List, Bool, true, false, ℕ, ◌+◌, ◌-◌, ◌*◌, ◌<◌, ◌≤◌, length}
+use Rattle.std.specs.Prelude.{◌≡◌, List, Option, MatchOption, false, ℕ, ◌+◌, ◌-◌, ◌*◌, ◌<◌, ◌≤◌, length}
 use Rattle.span.specs.Def.{DependentRows, IndependentRows}
 use Rattle.elimination.specs.Rows.{rows_of, set_of, Stopped, Finished}
-use Rattle.elimination.specs.declared.Found.{Found}
-use Rattle.elimination.specs.declared.Found.TheVariants.{At, Nothing}
+use Rattle.elimination.specs.declared.layout.Layout.{Layout}
 use Rattle.reduction.specs.Columns.{ReducedForm}
 use Rattle.reduction.specs.Packs.{Packed}
 
--- the answer to the question whether A
-abbrev pub Tells : Bool → Type 0 → Type 0
-Tells true A = A
-Tells false A = ¬ A
+-- the layout of these sizes, exactly where A holds
+abbrev pub LaidOut : ℕ → ℕ → ℕ → Type 0 → Option Layout → Type 0
+LaidOut stride width lead A r = MatchOption r (¬ A) (λ l. A × (l.stride ≡ stride) × (l.width ≡ width) × (l.lead ≡ lead))
 
 -- `rows` rows, of which `width` words are used, fit n words
 pub record Fits (n rows stride width : ℕ) : Type 0 where
@@ -27,10 +25,6 @@ pub record Sized (n m rows stride width lead : ℕ) : Type 0 where
 -- a set of rows fits the words from `lead` to `width`
 abbrev pub Roomy : ℕ → ℕ → ℕ → Type 0
 Roomy rows width lead = 64 * lead + rows ≤ 64 * width
-
-abbrev pub number_of : ℕ → Found → ℕ
-number_of rows (At d) = d
-number_of rows Nothing = rows
 
 abbrev pub bad : ℕ
 bad = 18446744073709551615

@@ -2,64 +2,52 @@
 // bad ones it answers 2^64 - 1 and leaves memory as it was.
 #![tactic(auto)]
 
-ghost use Rattle.std.specs.Prelude.{◌≡◌, ◌≤◌, length};
-ghost use Rattle.engine.specs.Answers.{Tells, Fits, Sized, Roomy, number_of, Eliminates, FirstSets, Bases};
+ghost use Rattle.std.specs.Prelude.{◌≤◌, ◌↔◌, IsTrue, length};
+ghost use Rattle.engine.specs.Answers.{LaidOut, Fits, Sized, Roomy, Eliminates, FirstSets, Bases};
 
-use elimination::Found;
+use elimination::Layout;
 
-const BAD: usize = 18446744073709551615;
+// C has no Option: a number answers for bad sizes, and the number of the rows for no row found.
+const BAD: usize = usize::MAX;
 
-// Do `rows` rows, of which `width` words are used, fit n words?
-fn fits(n: usize, rows: usize, stride: usize, width: usize) -> bool
-    ensures { Tells result (Fits n rows stride width) }
+// The layout of these sizes, if they are those of one and `rows` rows of it fit n words.
+fn fitting(n: usize, rows: usize, stride: usize, width: usize, lead: usize) -> Option<Layout>
+    ensures { LaidOut stride width lead ((lead ≤ width) × Fits n rows stride width) result }
 {
-    if width > stride {
-        return false;
+    if lead <= width && width <= stride && stride > 0 && rows <= n / stride {
+        Some(Layout {
+            stride,
+            width,
+            lead,
+        })
+    } else {
+        None
     }
-    if stride == 0 {
-        return false;
-    }
-    if rows > n / stride {
-        return false;
-    }
-    true
 }
 
-// Do the rows fit n words, and the slots of `lead` words m?
-fn sized(n: usize, m: usize, rows: usize, stride: usize, width: usize, lead: usize) -> bool
-    ensures { Tells result (Sized n m rows stride width lead) }
+// The same, if the slots of `lead` words fit m too.
+fn sized(
+    n: usize,
+    m: usize,
+    rows: usize,
+    stride: usize,
+    width: usize,
+    lead: usize,
+) -> Option<Layout>
+    ensures { LaidOut stride width lead (Sized n m rows stride width lead) result }
 {
-    if lead > width {
-        return false;
+    if lead <= m / 64 {
+        fitting(n, rows, stride, width, lead)
+    } else {
+        None
     }
-    if lead > m / 64 {
-        return false;
-    }
-    fits(n, rows, stride, width)
 }
 
 // Is there room for a set of rows behind the `lead` words?
-fn roomy(rows: usize, width: usize, lead: usize) -> bool
-    requires { lead ≤ width }
-    ensures { Tells result (Roomy rows width lead) }
+fn roomy(rows: usize, layout: Layout) -> bool
+    ensures { IsTrue result ↔ Roomy rows layout.width layout.lead }
 {
-    if rows == 0 {
-        return true;
-    }
-    if (rows - 1) / 64 >= width - lead {
-        return false;
-    }
-    true
-}
-
-// What was found, as a number: `rows` for nothing.
-fn number(f: Found, rows: usize) -> usize
-    ensures { result ≡ number_of rows f }
-{
-    match f {
-        Found::At(d) => d,
-        Found::Nothing => rows,
-    }
+    rows.div_ceil(64) <= layout.width - layout.lead
 }
 
 // The number of the first row that is a sum of those before it; `rows` if there is none.
@@ -73,11 +61,10 @@ pub fn dayunglipo_engine_eliminate(
 ) -> usize
     ensures { Eliminates buf.old rows stride width lead slots.old buf.new slots.new result }
 {
-    if !sized(buf.len(), slots.len(), rows, stride, width, lead) {
+    let Some(layout) = sized(buf.len(), slots.len(), rows, stride, width, lead) else {
         return BAD;
-    }
-    let f = elimination::eliminate(buf, rows, stride, width, lead, slots);
-    number(f, rows)
+    };
+    elimination::eliminate(buf, rows, layout, slots).unwrap_or(rows)
 }
 
 // The same, after the words from `lead` to `width` of each row are overwritten by its own set: the
@@ -92,15 +79,14 @@ pub fn dayunglipo_engine_first_set(
 ) -> usize
     ensures { FirstSets buf.old rows stride width lead slots.old buf.new slots.new result }
 {
-    if !sized(buf.len(), slots.len(), rows, stride, width, lead) {
+    let Some(layout) = sized(buf.len(), slots.len(), rows, stride, width, lead) else {
+        return BAD;
+    };
+    if !roomy(rows, layout) {
         return BAD;
     }
-    if !roomy(rows, width, lead) {
-        return BAD;
-    }
-    elimination::set_tags(buf, rows, stride, width, lead);
-    let f = elimination::eliminate(buf, rows, stride, width, lead, slots);
-    number(f, rows)
+    elimination::set_tags(buf, rows, layout);
+    elimination::eliminate(buf, rows, layout, slots).unwrap_or(rows)
 }
 
 // The rank of the first k bits of the rows, whose reduced row echelon form then stands at the
@@ -114,13 +100,13 @@ pub fn dayunglipo_engine_basis(
 ) -> usize
     ensures { Bases buf.old rows stride width k buf.new result }
 {
-    if !fits(buf.len(), rows, stride, width) {
+    let Some(layout) = fitting(buf.len(), rows, stride, width, 0) else {
+        return BAD;
+    };
+    if !roomy(k, layout) {
         return BAD;
     }
-    if !roomy(k, width, 0) {
-        return BAD;
-    }
-    let rank = reduction::reduce(buf, rows, stride, width, k);
-    reduction::pack(buf, rank, stride, width, rows * stride);
+    let rank = reduction::reduce(buf, rows, layout, k);
+    reduction::pack(buf, rank, layout, rows * stride);
     rank
 }

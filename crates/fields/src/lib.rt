@@ -1,4 +1,4 @@
-// The check that every call makes first: the lowest refusal number that the fields of a generator deserve.
+// The check that every call makes first: the refusal, of those that the fields of a generator deserve, with the lowest number.
 #![tactic(auto)]
 
 mod coefficients;

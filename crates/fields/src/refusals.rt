@@ -1,36 +1,37 @@
-// The lowest number that applies.
+// The first row of the table that applies.
 ghost use Rattle.std.specs.Prelude.{◌≡◌};
+ghost use Rattle.document.specs.Answer.{refusal_of};
 ghost use Rattle.document.specs.Refusals.{range_refusal, field_refusal};
 
 use crate::own::bad_value;
-use crate::ranges::{bad_bits, bad_shift, bad_size, outside};
-use document::Fields;
+use crate::ranges::{bad_bits, bad_shift, bad_size};
+use document::{Fields, Kind, Refusal};
 
-// 3 to 6, for a kind that is known to be one of the four.
-pub fn range_refusal(g: Fields) -> u32
-    ensures { result ≡ range_refusal g }
+// What refuses fields, but for their kind.
+#[tactic(auto, unfolding(document::specs::Refusals::range_refusal, document::specs::Refusals::lowest))]
+pub fn range_refusal(g: Fields) -> Result<(), Refusal>
+    ensures { refusal_of result ≡ range_refusal g }
 {
     if bad_size(g) {
-        return 3;
+        return Err(Refusal::Size);
     }
     if bad_bits(g) {
-        return 4;
+        return Err(Refusal::Bits);
     }
     if bad_shift(g) {
-        return 5;
+        return Err(Refusal::Shift);
     }
     if bad_value(g) {
-        return 6;
+        return Err(Refusal::Value);
     }
-    0
+    Ok(())
 }
 
-// 1, and then those.
-pub fn field_refusal(g: Fields) -> u32
-    ensures { result ≡ field_refusal g }
+// What refuses fields: their kind, and then that.
+#[tactic(auto, unfolding(document::specs::Refusals::field_refusal, document::specs::Refusals::lowest))]
+pub fn field_refusal(g: Fields) -> Result<(), Refusal>
+    ensures { refusal_of result ≡ field_refusal g }
 {
-    if outside(1, 4, g.kind as usize) {
-        return 1;
-    }
+    Kind::try_from(g.kind)?;
     range_refusal(g)
 }

@@ -1,13 +1,9 @@
 -- Rows in a buffer: got, put and kept.
-use mathlib.Core.Path.{◌≡◌, refl, sym, ap, ◌∙◌}
-use mathlib.Core.List.{List}
-use mathlib.Core.Logic.{by_cases}
-use native.Mathlib.Decide.{dec_lt, ℕ_discrete}
-use Prim.Native.Nat.{ℕ, ◌+◌, ◌*◌, ◌/◌, ◌%◌, ◌≤◌, ◌<◌}
-use native.Mathlib.Omega.{arith}
-use lib.ListN.{length, get_or, set, length-set, get_or-eq_default}
-use lib.Seq.{get_or-set_same, get_or-set_other}
-use borrow.Author.Tests.{lt-ltb, le-ltb}
+use Rattle.std.specs.Prelude.{◌≡◌, List, ℕ, ◌+◌, ◌*◌, ◌-◌, ◌/◌, ◌%◌, ◌≤◌, ◌<◌, length, get_or}
+use Rattle.std.proofs.Common.{sym, ap, ◌∙◌, arith, lt-ltb, le-ltb}
+use Rattle.std.proofs.Math.Logic.{by_cases}
+use Rattle.std.proofs.Math.Decide.{dec_lt}
+use Rattle.std.proofs.Math.ListN.{get_or-eq_default}
 use Rattle.theory.specs.Def.{unit}
 use Rattle.theory.specs.Sums.{pair-unit}
 use Rattle.digits.specs.Def.{Word, digit, bits_of, bits_from}
@@ -18,21 +14,10 @@ use Rattle.document.specs.Basis.{row}
 use Rattle.rows.specs.Theorems.{RowOf, row_same}
 use Rattle.elimination.specs.Words.{Written}
 use Rattle.elimination.proofs.RowBits.{bits_same}
-use Rattle.filling.specs.Rows.{stride, state_row, Stands, Filled}
-
--- ---- words got
-
-pub record Got (ws : List ℕ) (at n : ℕ) (r : List ℕ) : Type 0 where
-  pub long : length r ≡ row_words
-  pub words : (j : ℕ) → j < n → get_or r j 0 ≡ get_or ws (at + j) 0
-
-pub got_more : (ws r : List ℕ) (at i : ℕ) → i < row_words → Got ws at i r → Got ws at (i + 1) (set r i (get_or ws (at + i) 0))
-got_more ws r at i l x = record {
-  long = simp length-set x.long;
-  words = λ j k. by_cases (ℕ_discrete j i)
-      (λ e. rw e (get_or-set_same r i _ 0 (omega (arith, x.long))))
-      (λ e. get_or-set_other r i j _ 0 e ∙ x.words j (omega arith));
-}
+use Rattle.running.specs.Prepared.{machine_of}
+use Rattle.filling.specs.declared.bits.OutputBits.{OutputBits}
+use Rattle.filling.specs.Rows.{stride, state_row, Stands, StandsAll, Filled}
+use Rattle.filling.specs.Theorems.{ready-size}
 
 -- ---- rows
 
@@ -63,10 +48,14 @@ module _ (M : Machine) (l i : ℕ) where
       (λ h. x.is.clear b (omega arith) ∙ sym (rw (get_or-eq_default r 0 {n = b / 64} (omega arith)) (digit-zero (b % 64)))))
       x.is
 
--- ---- filling
+-- the row of one output before, as it was got
+pub before_got : (o : OutputBits) (i off : ℕ) (ws r : List ℕ) → o.l ≤ i → length r ≡ row_words
+    → ((k : ℕ) → k < row_words → get_or r k 0 ≡ get_or ws ((i - o.l) * stride + off + k) 0)
+    → StandsAll (machine_of o.generator) o.l i off ws → RowOf (machine_of o.generator) o.l (i - o.l) (bits_of r)
+before_got o i off ws r h e w x =
+    stands_got (machine_of o.generator) o.l (i - o.l) ws r _ (omega (arith, ready-size o.generator)) e w (x (i - o.l) (omega (arith, o.some)))
 
-pub filled_none : (M : Machine) (l : ℕ) (ws : List ℕ) → Filled M l 0 ws ws
-filled_none M l ws = record { long = refl; rows = λ i h. absurd (omega arith); between = λ i k h. absurd (omega arith); behind = λ j h. refl }
+-- ---- filling
 
 module _ (M : Machine) (l i : ℕ) (ws mid out s : List ℕ) (x : Filled M l i ws mid) (y : Written mid (i * stride) row_words (λ k. get_or s k 0) out) (z : RowOf M l i (bits_of s)) where
   pub filled_more : Filled M l (i + 1) ws out

@@ -1,23 +1,20 @@
--- A turn of `grow`: the row is laid, and then taken.
-use mathlib.Core.Path.{◌≡◌, refl, ◌∙◌}
-use mathlib.Core.Bool.{Bool, true, false}
-use mathlib.Core.List.{List}
-use mathlib.Core.Logic.{by_cases}
-use native.Mathlib.Decide.{dec_lt}
-use Prim.Native.Nat.{ℕ, ◌+◌, ◌*◌, ◌≤◌, ◌<◌}
-use native.Mathlib.Omega.{arith}
-use lib.ListN.{length, get_or}
+-- A turn of `first_dependent`: the row is laid, and then taken.
+use Rattle.std.specs.Prelude.{◌≡◌, refl, Bool, true, false, List, ℕ, ◌+◌, ◌*◌, ◌≤◌, ◌<◌, length, get_or, replicate}
+use Rattle.std.proofs.Common.{◌∙◌, arith}
+use Rattle.std.proofs.Math.Logic.{by_cases}
+use Rattle.std.proofs.Math.Decide.{dec_lt}
 use Rattle.digits.specs.Def.{bits_of}
 use Rattle.kinds.specs.Generator.{Machine}
 use Rattle.document.specs.Limits.{row_words}
 use Rattle.rows.specs.Theorems.{RowOf}
 use Rattle.span.specs.Def.{Eliminated}
-use Rattle.span.specs.Leads.{eliminated_same}
+use Rattle.span.specs.Leads.{eliminated_start, eliminated_same}
+use Rattle.std.proofs.lemmas.List.{get_or-replicate}
 use Rattle.span.specs.Theorems as Span
-use Rattle.elimination.specs.Words.{Written, Cleared}
+use Rattle.elimination.specs.Words.{Written}
 use Rattle.elimination.specs.Rows.{rows_of, slot_of, Taken}
 use Rattle.elimination.proofs.RowBits.{others_same}
-use Rattle.elimination.proofs.Take.{cleared_start, taken_more, taken_last}
+use Rattle.elimination.proofs.Take.{taken_more, taken_last}
 use Rattle.filling.specs.Rows.{stride, state_row, StandsAll, Laid, FirstDependent}
 use Rattle.filling.proofs.Laws.{stands_put, stands_kept}
 
@@ -36,7 +33,7 @@ module _ (M : Machine) (l i : ℕ) (ws mid out s : List ℕ) (z : RowOf M l i (b
     second = stands_put M l i mid out s (i * stride + row_words) z y;
   }
 
--- ---- `grow`
+-- ---- `first_dependent`
 
 -- the rows below i are taken, and stand as they came in the second halves of their places
 pub record Growing (M : Machine) (l i : ℕ) (ws buf slots : List ℕ) : Type 0 where
@@ -45,11 +42,12 @@ pub record Growing (M : Machine) (l i : ℕ) (ws buf slots : List ℕ) : Type 0 
   pub taken : Eliminated (64 * row_words) (64 * row_words) i i (state_row M l) (rows_of buf stride) (slot_of slots)
   pub behind : (j : ℕ) → i * stride ≤ j → get_or buf j 0 ≡ get_or ws j 0
 
-pub growing_none : (M : Machine) (l : ℕ) (ws slots cleared : List ℕ) → Cleared slots 0 (64 * row_words) cleared → Growing M l 0 ws ws cleared
-growing_none M l ws slots cleared x = record {
+-- at first no bit leads a row
+pub growing_none : (M : Machine) (l : ℕ) (ws : List ℕ) → Growing M l 0 ws ws (replicate (64 * row_words) 0)
+growing_none M l ws = record {
   long = refl;
   raw = λ i h. absurd (omega arith);
-  taken = cleared_start (64 * row_words) row_words (state_row M l) (rows_of ws stride) x;
+  taken = eliminated_start (state_row M l) (rows_of ws stride) _ (λ b h. get_or-replicate (64 * row_words) b 0 0 h);
   behind = λ j h. refl;
 }
 

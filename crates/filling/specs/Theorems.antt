@@ -2,7 +2,7 @@
 use Rattle.std.specs.Prelude.{◌≡◌, refl, Bool, true, false, List, ℕ, ◌+◌, ◌*◌, ◌≤◌, ◌<◌, leb}
 use Rattle.std.proofs.Common.{sym, ◌∙◌, mul-le-mul, arith, le-leb}
 use Rattle.std.proofs.Math.Logic.{by_cases}
-use Rattle.std.proofs.Math.Decide.{dec_lt, ℕ_discrete}
+use Rattle.std.proofs.Math.Decide.{dec_lt}
 use Rattle.std.proofs.lemmas.Bool.{lt-leb}
 use Rattle.theory.specs.Def.{bit, Linear, Equidistributed}
 use Rattle.theory.specs.Sums.{pair_same}
@@ -10,34 +10,24 @@ use Rattle.digits.specs.Def.{Word}
 use Rattle.document.specs.declared.Fields.{Fields}
 use Rattle.document.specs.Limits.{most_bits, most_output, row_words}
 use Rattle.document.specs.Generator.{machine, size}
-use Rattle.document.specs.Ranges.{Accepted, cases}
+use Rattle.document.specs.Ranges.{Accepted}
 use Rattle.document.specs.Cells.{cell_bit, is_yes}
-use Rattle.document.specs.Theorems.{machine_linear, cell_linear, yes_is_even}
-use Rattle.running.specs.declared.Prepared.{Prepared}
-use Rattle.running.specs.Prepared.{Ready, PreparedFor, machine_of}
-use Rattle.running.specs.Theorems.{prepared_ready, prepared_size, prepared_width}
+use Rattle.document.specs.Theorems.{machine_linear, machine_width, cell_linear, yes_is_even}
+use Rattle.running.specs.declared.ready.Prepared.{Prepared}
+use Rattle.running.specs.Prepared.{PreparedFor, machine_of}
+use Rattle.running.specs.Theorems.{prepared_size, prepared_width, ready_most, ready_width}
 use Rattle.rows.specs.Theorems.{RowOf, row_prepared, row_cell}
 use Rattle.span.specs.Def.{RowsOf}
 use Rattle.span.specs.Theorems as Span
 use Rattle.filling.specs.Rows.{state_row, FirstDependent}
 
 -- a state has no more bits than a row
-pub ready-size : (p : Prepared) → Ready p → p.k ≤ most_bits
-ready-size p x =
-    by_cases (ℕ_discrete p.kind 1)
-    (λ e. (x.one e).mask.most)
-    (λ n. by_cases (ℕ_discrete p.kind 2)
-    (λ e. let y = x.two e in omega (arith, y.size, y.words.fit))
-    (λ o. let y = x.other n o in omega (arith, y.size, y.words.fit)))
+pub ready-size : (p : Prepared) → (machine_of p).size ≤ most_bits
+ready-size = ready_most
 
 -- and an output no more bits than a word
-pub ready_bits : (p : Prepared) → Ready p → p.bits ≤ most_output
-ready_bits p x =
-    by_cases (ℕ_discrete p.kind 1)
-    (λ e. (x.one e).bits)
-    (λ n. by_cases (ℕ_discrete p.kind 2)
-    (λ e. let y = (x.two e).words in omega (arith, y.bits, y.narrow))
-    (λ o. let y = (x.other n o).words in omega (arith, y.bits, y.narrow)))
+pub ready_bits : (p : Prepared) → (machine_of p).width ≤ most_output
+ready_bits = ready_width
 
 -- so that t·l is computed with room to spare
 pub product_small : (k t l : ℕ) → k ≤ most_bits → t ≤ k → l ≤ most_output → t * l ≤ most_bits * most_output
@@ -49,14 +39,14 @@ not_yes false n = refl
 
 module _ (g : Fields) (p : Prepared) (a : Accepted g) (y : PreparedFor g p) where
   pub size_most : size g ≤ most_bits
-  size_most = omega (arith, prepared_size g p a y, ready-size p (prepared_ready g p a y))
+  size_most = omega (arith, prepared_size g p a y, ready-size p)
 
   -- L is the field
-  pub prepared_bits : p.bits ≡ g.bits
-  prepared_bits = cases g a (λ e. (y.one e).bits) (λ e. (y.two e).bits) (λ e. (y.three e).bits) (λ e. (y.four e).bits)
-
   pub bits_width : (machine g).width ≡ g.bits
-  bits_width = sym (prepared_width g p a y) ∙ prepared_bits
+  bits_width = machine_width g
+
+  pub prepared_bits : (machine_of p).width ≡ g.bits
+  prepared_bits = prepared_width g p a y ∙ bits_width
 
   module _ (l : ℕ) (lo : 0 < l) (hi : l ≤ (machine g).width) where
     linear : (i : ℕ) → Linear (cell_bit (machine g) l i)

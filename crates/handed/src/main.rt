@@ -3,148 +3,97 @@
 // and how much of the buffer is lent: all of it, as much as a work buffer, or one word less.
 #![tactic(auto)]
 
-ghost use Rattle.std.specs.Prelude.{◌≤◌, ◌<◌, length};
+ghost use Rattle.std.specs.Prelude.{◌≤◌};
 
 use document::{Dimension, Fields, ROW_WORDS, Resolution, WORK_WORDS};
+use records::Records;
+use std::io;
 
-const STDOUT_FILENO: i32 = 1;
+const RECORD_BYTES: usize = 70;
 
 // The words behind the work buffer, and what every word holds before a call.
 const BEHIND: usize = 8;
 
 const MARK: u64 = 0xaaaa_aaaa_aaaa_aaaa;
 
-fn main() {
-    let mut entry = [0u8; 70];
-    let mut work = [0u64; WORK_WORDS + BEHIND];
-    for _ in 0..64usize {
-        let n = io::read_full(0, &mut entry);
-        if n < 70 {
-            return;
-        }
-        show(&entry, &mut work);
-    }
+// The words of the whole buffer.
+const BUFFER_WORDS: usize = WORK_WORDS + BEHIND;
+
+// How much of the buffer is lent.
+#[derive(Clone, Copy)]
+enum Lent {
+    All,
+    WorkBuffer,
+    OneWordShort,
 }
 
-fn wide(x: u8) -> usize
-    ensures { result < 256 }
-{
-    x as usize
-}
-
-fn count(x: u8, limit: usize) -> usize
-    ensures { result ≤ limit }
-{
-    let n = x as usize;
-    if limit < n { limit } else { n }
-}
-
-fn number(x: u32) -> u64 {
-    x as u64
-}
-
-fn long(x: usize) -> u64 {
-    x as u64
-}
-
-fn space() {
-    io::write_all(STDOUT_FILENO, b" ");
-}
-
-fn line() {
-    io::write_all(STDOUT_FILENO, b"\n");
-}
-
-fn print(x: u64) {
-    io::print_decimal(STDOUT_FILENO, x);
-}
-
-fn print_word(x: u64) {
-    io::print_hex(STDOUT_FILENO, x, 16);
-}
-
-fn mark(work: &mut [u64]) {
-    for i in 0..work.len() {
-        work[i] = MARK;
-    }
-}
-
-// The rows of the part, one to a line.
-fn print_part(part: &[u64]) {
-    for i in 0..part.len() {
-        print_word(part[i]);
-        if i % ROW_WORDS == ROW_WORDS - 1 {
-            line();
-        } else {
-            space();
+impl From<u8> for Lent {
+    fn from(mode: u8) -> Lent {
+        match mode {
+            0 => Lent::All,
+            1 => Lent::WorkBuffer,
+            _ => Lent::OneWordShort,
         }
     }
 }
 
-// Every word of the buffer: how often it stands there in a row, and the word.
-fn print_buffer(work: &[u64]) {
-    let mut run = 0usize;
-    for i in 0..work.len() {
-        run = print_run(work, i, run + 1);
+impl Lent {
+    fn words(self) -> usize
+        ensures { result ≤ BUFFER_WORDS }
+    {
+        match self {
+            Lent::All => BUFFER_WORDS,
+            Lent::WorkBuffer => WORK_WORDS,
+            Lent::OneWordShort => WORK_WORDS - 1,
+        }
     }
 }
 
-// Prints the run of `run` words that ends at i, if it does; gives how long the run is then.
-fn print_run(work: &[u64], i: usize, run: usize) -> usize
-    requires { i < length work.now }
-    ensures { result ≤ run }
-{
-    let n = i + 1;
-    if n < work.len() {
-        if work[n] == work[i] {
-            return run;
-        }
+fn main(rt: HostRuntime) {
+    for entry in Records::<_, RECORD_BYTES>::new(rt.stdin()) {
+        let _ = show(&rt, &entry);
     }
-    print(long(run));
-    space();
-    print_word(work[i]);
-    line();
-    0
+}
+
+fn show(rt: &impl Print, entry: &[u8; RECORD_BYTES]) -> io::Result<()> {
+    let reading = description::read(records::description(entry));
+    let t = Dimension(usize::from(u16::from_be_bytes([entry[66], entry[67]])));
+    let l = Resolution(usize::from(entry[68]));
+    let mut work = [MARK; BUFFER_WORDS];
+    let lent = Lent::from(entry[69]).words();
+    hand(rt, reading.fields, t, l, &mut work[..lent])?;
+    print_buffer(rt, &work)
 }
 
 // The check call's number, then the part.
-fn hand(g: Fields, t: usize, l: usize, work: &mut [u64]) {
-    print(number(basis::basis_check(g, Dimension(t), Resolution(l), work.len())));
-    line();
-    let part = basis::basis(g, Dimension(t), Resolution(l), work);
-    print_part(part);
+fn hand(
+    rt: &impl Print,
+    g: Fields,
+    t: Dimension,
+    l: Resolution,
+    work: &mut [u64],
+) -> io::Result<()> {
+    println!(rt; "{}", basis::basis_check(g, t, l, work.len()))?;
+    print_part(rt, basis::basis(g, t, l, work))
 }
 
-fn lent(mode: u8) -> usize
-    ensures { result ≤ 7704 }
-{
-    if mode == 0 {
-        return WORK_WORDS + BEHIND;
+// The rows of the part, one to a line.
+fn print_part(rt: &impl Print, part: &[u64]) -> io::Result<()> {
+    for (i, word) in part.iter().enumerate() {
+        let end = if i % ROW_WORDS == ROW_WORDS - 1 {
+            '\n'
+        } else {
+            ' '
+        };
+        print!(rt; "{word:016x}{end}")?;
     }
-    if mode == 1 {
-        return WORK_WORDS;
+    Ok(())
+}
+
+// Every word of the buffer: how often it stands there in a row, and the word.
+fn print_buffer(rt: &impl Print, work: &[u64]) -> io::Result<()> {
+    for run in work.chunk_by(|a, b| a == b) {
+        println!(rt; "{} {:016x}", run.len(), run[0])?;
     }
-    WORK_WORDS - 1
-}
-
-// One call, with marks in the whole buffer before it.
-fn call(g: Fields, t: usize, l: usize, room: usize, work: &mut [u64])
-    requires { room ≤ length work.old }
-{
-    mark(work);
-    hand(g, t, l, &mut work[..room]);
-    print_buffer(work);
-    line();
-}
-
-fn show(entry: &[u8], work: &mut [u64])
-    requires { (70 ≤ length entry.now) × (7704 ≤ length work.old) }
-{
-    let n = count(entry[0], 65);
-    let e = 1 + n;
-    let reading = description::read(&entry[1..e]);
-    let fields = reading.fields;
-    let t = 256 * wide(entry[66]) + wide(entry[67]);
-    let l = wide(entry[68]);
-    call(fields, t, l, lent(entry[69]), work);
+    println!(rt)
 }

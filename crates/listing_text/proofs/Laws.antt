@@ -2,24 +2,21 @@
 use mathlib.Core.Path.{◌≡◌, refl, sym, ap, ap₂, ◌∙◌}
 use mathlib.Core.Bool.{Bool, true, false, cond}
 use mathlib.Core.List.{List, [], ◌∷◌, ◌++◌, append_assoc}
-use Prim.Native.Nat.{ℕ, zero, suc, ◌+◌, ◌-◌, ◌*◌, ◌/◌, ◌%◌, ◌≤◌, ◌<◌}
+use Prim.Native.Nat.{ℕ, zero, suc, ◌+◌, ◌*◌, ◌/◌, ◌%◌, ◌≤◌, ◌<◌}
 use native.Mathlib.Numerals.{add-one}
 use native.Mathlib.Omega.{arith}
 use lib.Dec.{ltb}
-use lib.ListN.{length, take, drop, set, get_or, length-append, length-set, take-append-drop}
-use lib.Seq.{length-take-le, take_at, drop-append-add, drop-drop, set_split, take-suc, take-length}
+use lib.ListN.{length, take, drop, length-append, take-append-drop}
+use lib.Seq.{length-take-le, take_at, drop-append-add, drop-drop}
 use borrow.Author.Tests.{lt-ltb, le-ltb}
 use Rattle.listing_text.specs.Text.{decimal_in, decimal, most_number, number_bytes, line_bytes, lines_to}
-use Rattle.listing_text.specs.Wrote.{Wrote}
+use Rattle.listing_text.specs.declared.page.Page.{Page}
+use Rattle.listing_text.specs.Wrote.{Wrote, Added}
 
 -- ---- text after text
 
 pub wrote_none : (was : List ℕ) (at : ℕ) → at ≤ length was → Wrote 0 was at [] was at
 wrote_none was at h = record { few = omega arith; stop = omega arith; inside = h; long = refl; all = sym (take-append-drop at was) }
-
-pub wrote_byte : (was : List ℕ) (at b : ℕ) → at < length was → Wrote 1 was at (b ∷ []) (set was at b) (at + 1)
-wrote_byte was at b h =
-    record { few = omega arith; stop = refl; inside = omega arith; long = length-set was at b; all = rw add-one (set_split was at b h) }
 
 -- a wider bound, or another name for the text
 pub wrote_as : {m n : ℕ} {was text now : List ℕ} {at e : ℕ} (other : List ℕ) → text ≡ other → length other ≤ n → Wrote m was at text now e → Wrote n was at other now e
@@ -70,14 +67,20 @@ module _ {m n : ℕ} {was mid now a b : List ℕ} {at e f : ℕ} (x : Wrote m wa
             ∙ ap (λ l. take at was ++ l) (sym (append_assoc a b (drop f was)));
       }
 
--- one byte more of a word
-pub word_more : (was word now : List ℕ) (at i : ℕ) → i < length word → at + length word ≤ length was → Wrote i was at (take i word) now (at + i)
-    → Wrote (i + 1) was at (take (i + 1) word) (set now (at + i) (get_or word i 0)) (at + (i + 1))
-word_more was word now at i h room x =
-    let e : at + i + 1 ≡ at + (i + 1) = omega arith in
-    rw e at
-    (wrote_as {n = i + 1} (take (i + 1) word) (sym (rw add-one (take-suc word i 0 h))) (omega (arith, length-take-le (i + 1) word (omega arith)))
-    (wrote_then x (wrote_byte now (at + i) (get_or word i 0) (omega (arith, x.long)))))
+-- ---- the same of a page
+
+added_none : (p : Page) → p.end ≤ length p.out.now → Added 0 p [] p
+added_none p h = record { same = refl; wrote = wrote_none p.out.now p.end h }
+
+pub added_then : {m n : ℕ} {p q r : Page} {a b : List ℕ} → Added m p a q → Added n q b r → Added (m + n) p (a ++ b) r
+added_then x y = record { same = y.same ∙ x.same; wrote = wrote_then x.wrote y.wrote }
+
+-- a wider bound, and another name for the text
+pub added_wide : {m n : ℕ} {p q : Page} {text : List ℕ} → Added m p text q → m ≤ n → Added n p text q
+added_wide x h = record { same = x.same; wrote = wrote_wide x.wrote h }
+
+pub added_as : {m n : ℕ} {p q : Page} {text : List ℕ} (other : List ℕ) → text ≡ other → length other ≤ n → Added m p text q → Added n p other q
+added_as other e h x = record { same = x.same; wrote = wrote_as other e h x.wrote }
 
 -- ---- digits
 
@@ -115,32 +118,26 @@ decimal-length (suc p) n = go (ltb n 10) (decimal-length p (n / 10))
 pub decimal_few : (n : ℕ) → length (decimal n) ≤ number_bytes
 decimal_few n = decimal-length 4 n
 
-pub wrote_word : (was word now : List ℕ) (at i : ℕ) → i ≡ length word → Wrote i was at (take i word) now (at + i) → Wrote (length word) was at word now (at + length word)
-wrote_word was word now at i e x = rw (take-length word) at (rw e at x)
-
 -- the digits of a tenth leave room for one more
 pub few_more : (n : ℕ) → 10 ≤ n → n < most_number → length (decimal (n / 10)) + 1 ≤ number_bytes
 few_more n g h = omega (arith, length-append (decimal (n / 10)) ((48 + n % 10) ∷ []), ap length (decimal_more n g h), decimal_few n)
 
 -- ---- line after line
 
-pub lines_none : (f : ℕ → List ℕ) → lines_to 0 f ≡ []
+pub lines_none : (f : ℕ → List ℕ) (p : Page) → p.end ≤ length p.out.now → Added 0 p (lines_to 0 f) p
 unfolding lines_to
-lines_none f = refl
+lines_none f p h = added_none p h
 
 lines_step : (f : ℕ → List ℕ) (i : ℕ) (line : List ℕ) → line ≡ f (i + 1) → lines_to (i + 1) f ≡ lines_to i f ++ line
 unfolding lines_to
 lines_step f i line q = rw q (rw add-one refl)
 
-pub lines_more : {was mid now line : List ℕ} {at e e' : ℕ} (f : ℕ → List ℕ) (i : ℕ) → line ≡ f (i + 1)
-    → Wrote (i * line_bytes) was at (lines_to i f) mid e → Wrote line_bytes mid e line now e' → Wrote ((i + 1) * line_bytes) was at (lines_to (i + 1) f) now e'
-lines_more {line = line} f i q x y =
-    wrote_wide {m = i * line_bytes + line_bytes} (rw (lines_step f i line q) (wrote_then x y)) (omega arith)
+pub lines_more : {p q r : Page} {line : List ℕ} (f : ℕ → List ℕ) (i : ℕ) → line ≡ f (i + 1)
+    → Added (i * line_bytes) p (lines_to i f) q → Added line_bytes q line r → Added ((i + 1) * line_bytes) p (lines_to (i + 1) f) r
+lines_more {line = line} f i e x y =
+    added_wide {m = i * line_bytes + line_bytes} (rw (lines_step f i line e) (added_then x y)) (omega arith)
 
--- another name for the text
-pub wrote_is : {m : ℕ} {was text now : List ℕ} {at e : ℕ} (other : List ℕ) → text ≡ other → Wrote m was at text now e → Wrote m was at other now e
-wrote_is other q x = rw q at x
+-- ---- what the buffer holds when its page is done
 
--- the line of t = i + 1
-pub at_place : (f : ℕ → ℕ → List ℕ) (table : List ℕ) (i : ℕ) → f (i + 1) (get_or table i 0) ≡ f (i + 1) (get_or table (i + 1 - 1) 0)
-at_place f table i = let e : i ≡ i + 1 - 1 = omega arith in ap (λ j. f (i + 1) (get_or table j 0)) e
+pub finished : {m n : ℕ} {p q : Page} {text now : List ℕ} → Added m p text q → m ≤ n → now ≡ q.out.now → Wrote n p.out.now p.end text now q.end
+finished x h e = rw e (wrote_wide x.wrote h)

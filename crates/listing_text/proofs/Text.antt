@@ -4,26 +4,29 @@ use mathlib.Core.List.{List, ◌++◌}
 use Prim.Native.Nat.{ℕ, zero, suc, ◌+◌, ◌-◌, ◌/◌, ◌≤◌, ◌<◌, min}
 use native.Mathlib.Omega.{arith}
 use lib.ListN.{length, get_or, drop}
-use borrow.Author.Tests.{eq-eqb, ne_eqb, le-ltb}
+use borrow.Author.Tests.{eq-eqb, ne_eqb}
 use Rattle.kinds.specs.Generator.{Machine}
 use Rattle.document.specs.declared.Fields.{Fields}
-use Rattle.document.specs.Limits.{most_bits, most_output, work_words}
+use Rattle.document.specs.declared.refusals.Refusal.{Refusal}
+use Rattle.document.specs.declared.refusals.Refusal.TheVariants as R
+use Rattle.document.specs.Answer.{refusal_number}
+use Rattle.document.specs.Limits.{most_bits, most_output}
 use Rattle.document.specs.Generator.{machine}
 use Rattle.document.specs.Description.{fields_of}
-use Rattle.document.specs.Refusals.{field_cases, field_refusal, read_refusal, report_refusal}
-use Rattle.document.specs.Lowest.{skips, none_left, then_of, field_rises}
+use Rattle.document.specs.Refusals.{read_refusal}
 use Rattle.document.specs.Ranges.{Accepted}
 use Rattle.document.proofs.Theorems.{ranges}
 use Rattle.document.specs.Theorems as D
 use Rattle.document.specs.Report.{most_resolution, resolution_gap, most_dimension, dimension_gap, resolution_sum, dimension_sum, is_me}
 use Rattle.tables.specs.Theorems.{at_place}
 use Rattle.report.specs.declared.reply.Report.{Report}
-use Rattle.running.specs.declared.Prepared.{Prepared}
-use Rattle.running.specs.Prepared.{PreparedFor}
+use Rattle.running.specs.declared.ready.Prepared.{Prepared}
+use Rattle.running.specs.Prepared.{PreparedFor, machine_of}
 use Rattle.running.specs.Theorems.{prepared_size, prepared_width}
-use Rattle.report.specs.Promises.{ReportOf, ReportedAs}
+use Rattle.report.specs.Promises.{ReportOf}
+use Rattle.report.specs.Prepared.{ReportMade}
 use Rattle.report.specs.Theorems.{Fit, prepared_fits}
-use Rattle.listing_text.specs.Text.{row_line, lines_to, head_line, sums_line, me_line, dimension_line, resolution_line, refused_line, page_of, most_text}
+use Rattle.listing_text.specs.Text.{row_line, lines_to, head_line, sums_line, me_line, dimension_line, resolution_line, refused_line, page_of, most_text, most_number}
 use Rattle.listing_text.specs.Wrote.{Wrote}
 use Rattle.listing_text.specs.Listing.{report_text, listing_of, Listed, Printable}
 use Rattle.listing_text.specs.Numbers.{resolution_most, dimension_most, small_numbers}
@@ -66,11 +69,6 @@ printable M r x k L a b p q =
 pub read_accepted : (bs : List ℕ) → read_refusal bs ≡ 0 → Accepted (fields_of bs)
 read_accepted bs e = ranges (fields_of bs) (D.read_accepted bs e)
 
-pub report_goes : (bs : List ℕ) (room : ℕ) → read_refusal bs ≡ 0 → work_words ≤ room → report_refusal (fields_of bs) room ≡ 0
-unfolding report_refusal field_refusal
-report_goes bs room e h =
-    sym (then_of 0 (field_cases (fields_of bs)) _ 0 (field_rises (fields_of bs)) (D.read_accepted bs e) (skips 0 11 _ _ _ refl (le-ltb room work_words h) none_left))
-
 -- ---- the listing
 
 pub listing_report : (bs : List ℕ) → read_refusal bs ≡ 0 → listing_of bs ≡ report_text (machine (fields_of bs))
@@ -101,14 +99,30 @@ pub record Made (bs : List ℕ) (k L : ℕ) (r : Report) : Type 0 where
   pub fits : Printable k L r
   pub text : page_of k L (λ t. get_or r.resolutions (t - 1) 0) (λ l. get_or r.dimensions (l - 1) 0) r.resolution_sum r.dimension_sum r.me ≡ listing_of bs
 
-pub made : (bs was : List ℕ) (g : Fields) (p : Prepared) (r : Report) (now : List ℕ) → read_refusal bs ≡ 0 → g ≡ fields_of bs → work_words ≤ length was
-    → ReportedAs g was r now → PreparedFor g p → Made bs p.k p.bits r
-made bs was g p r now e q room y z =
-    let a : Accepted g = rw q (read_accepted bs e) in
-    let goes : report_refusal g (length was) ≡ 0 = rw q (report_goes bs (length was) e room) in
-    let x : ReportOf (machine g) r = y.accepted goes in
-    let f : Fit p = prepared_fits g p a z in
+pub made : (bs was : List ℕ) (g : Fields) (p : Prepared) (k L : ℕ) (r : Report) (now : List ℕ) → 0 ≡ read_refusal bs → g ≡ fields_of bs
+    → PreparedFor g p → k ≡ (machine_of p).size → L ≡ (machine_of p).width → ReportMade p was r now → Made bs k L r
+made bs was g p k L r now e q z s w y =
+    let a : Accepted g = rw q (read_accepted bs (sym e)) in
+    let x : ReportOf (machine g) r = y.report g a z in
+    let f : Fit p = prepared_fits p in
+    let b : k ≡ (machine g).size = s ∙ prepared_size g p a z in
+    let c : L ≡ (machine g).width = w ∙ prepared_width g p a z in
     record {
-      fits = printable (machine g) r x p.k p.bits (prepared_size g p a z) (prepared_width g p a z) f.size f.bits;
-      text = page_is (machine g) r x p.k p.bits (prepared_size g p a z) (prepared_width g p a z) ∙ ap (λ h. report_text (machine h)) q ∙ sym (listing_report bs e);
+      fits = printable (machine g) r x k L b c (rw s f.size) (rw w f.bits);
+      text = page_is (machine g) r x k L b c ∙ ap (λ h. report_text (machine h)) q ∙ sym (listing_report bs (sym e));
     }
+
+-- ---- a refusal's number fits
+
+pub number_small : (e : Refusal) → refusal_number e < most_number
+number_small R.Kind = omega arith
+number_small R.Length = omega arith
+number_small R.Size = omega arith
+number_small R.Bits = omega arith
+number_small R.Shift = omega arith
+number_small R.Value = omega arith
+number_small R.Dimension = omega arith
+number_small R.Resolution = omega arith
+number_small R.State = omega arith
+number_small R.Product = omega arith
+number_small R.Room = omega arith

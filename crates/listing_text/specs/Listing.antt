@@ -1,12 +1,15 @@
 -- The listing of a description's bytes.
-use Rattle.std.specs.Prelude.{◌≡◌, cond, List, ◌++◌, ℕ, ◌+◌, ◌/◌, ◌≤◌, ◌<◌, min, eqb, length, get_or, drop}
+use Rattle.std.specs.Prelude.{◌≡◌, cond, List, ◌++◌, ℕ, ◌+◌, ◌/◌, ◌≤◌, ◌<◌, min, eqb, length, get_or, drop, Result, Ok, Err}
 use Rattle.kinds.specs.Generator.{Machine}
 use Rattle.document.specs.Limits.{most_bits, most_output}
+use Rattle.document.specs.declared.refusals.Refusal.{Refusal}
+use Rattle.document.specs.Answer.{refusal_number}
 use Rattle.document.specs.Generator.{machine}
 use Rattle.document.specs.Description.{fields_of}
 use Rattle.document.specs.Refusals.{read_refusal}
 use Rattle.document.specs.Report.{most_resolution, resolution, resolution_gap, most_dimension, dimension, dimension_gap, resolution_sum, dimension_sum, is_me}
 use Rattle.report.specs.declared.reply.Report.{Report}
+use Rattle.listing_text.specs.Wrote.{Wrote}
 use Rattle.listing_text.specs.Text.{head_line, row_line, lines_to, sums_line, me_line, refused_line, most_number, most_text}
 
 -- "The first line gives k, the state bits, and L. The others follow as shown, t from 1 to k, then l from 1 to L."
@@ -29,6 +32,11 @@ pub record Listed (bs was : List ℕ) (end : ℕ) (now : List ℕ) : Type 0 wher
   pub none : length was < most_text → end ≡ 0
   pub kept : length was < most_text → now ≡ was
   pub inside : end ≤ length was
+
+-- the page of an accepted description and where it ends; or what refuses the reading, and the buffer is left
+abbrev pub Told : List ℕ → List ℕ → Result ℕ Refusal → List ℕ → Type 0
+Told bs was (Ok end) now = Wrote most_text was 0 (listing_of bs) now end
+Told bs was (Err refusal) now = (refusal_number refusal ≡ read_refusal bs) × (now ≡ was)
 
 -- numbers that fit a listing
 pub record Printable (k L : ℕ) (r : Report) : Type 0 where

@@ -1,17 +1,29 @@
 // The listing of a description.
-ghost use Rattle.listing_text.specs.Listing.{Listed};
+ghost use Rattle.std.specs.Prelude.{◌≤◌, length};
+ghost use Rattle.listing_text.specs.Text.{most_text};
+ghost use Rattle.listing_text.specs.Listing.{Listed, Told};
 
-use crate::lines::put_refused;
-use crate::pages::put_page;
-use description::read;
-use document::{Fields, MOST_BITS, MOST_OUTPUT, WORK_WORDS};
-use report::report;
+use crate::whole::{put_page, put_refused};
+use description::parse;
+use document::{MOST_BITS, MOST_OUTPUT, Refusal, WORK_WORDS};
+use report::{report_of, sizes};
 use running::prepare;
 
 // No line is longer, and no listing.
 pub const LINE_BYTES: usize = 32;
 
 pub const MOST_TEXT: usize = (MOST_BITS + MOST_OUTPUT + 3) * LINE_BYTES;
+
+// The page of the bytes of a description, at the front of a lent buffer, and its length; or why there is none, and the buffer is left.
+fn page(bytes: &[u8], out: &mut [u8]) -> Result<usize, Refusal>
+    requires { most_text ≤ length out.old }
+    ensures { Told bytes.now out.old result out.new }
+{
+    let p = prepare(parse(bytes)?);
+    let mut work = [0; WORK_WORDS];
+    let report = report_of(p, &mut work);
+    Ok(put_page(out, sizes(p), &report))
+}
 
 // The listing of the bytes of a description, at the front of a lent buffer, and its length; 0 where the buffer could be too short.
 pub fn listing(bytes: &[u8], out: &mut [u8]) -> usize
@@ -20,12 +32,8 @@ pub fn listing(bytes: &[u8], out: &mut [u8]) -> usize
     if out.len() < MOST_TEXT {
         return 0;
     }
-    let reading = read(bytes);
-    if reading.refusal != 0 {
-        return put_refused(out, 0, reading.refusal);
+    match page(bytes, out) {
+        Ok(end) => end,
+        Err(refusal) => put_refused(out, refusal),
     }
-    let mut work = [0u64; WORK_WORDS];
-    let r = report(reading.fields, &mut work);
-    let p = prepare(reading.fields);
-    put_page(out, p.k, p.bits, r)
 }

@@ -3,9 +3,8 @@
 
 mod calling;
 mod lines;
-mod numbers;
-mod pages;
-mod table_lines;
+mod page;
+mod whole;
 
 pub use calling::{LINE_BYTES, MOST_TEXT, listing};
-pub use pages::put_page;
+pub use whole::put_page;

@@ -1,73 +1,76 @@
-// The lines of a listing.
+// The lines of a listing. Each asks that there is room for a line: a fact of the page at that call, and no invariant of pages.
 ghost use Rattle.std.specs.Prelude.{Bool, ◌+◌, ◌<◌, ◌≤◌, length};
 ghost use Rattle.listing_text.specs.Text.{most_number, row_line, head_line, sums_line, me_line, verdict, refused_line, line_bytes};
-ghost use Rattle.listing_text.specs.Wrote.{Wrote};
+ghost use Rattle.listing_text.specs.Wrote.{Added};
 
-use crate::numbers::{put_byte, put_next, put_word};
+use crate::page::Page;
 
-// A letter and four numbers: a `t` line or an `l` line.
-pub fn put_row(out: &mut [u8], at: usize, letter: u8, a: u32, b: u32, c: u32, d: u32) -> usize
-    requires { (a < most_number) × (b < most_number) × (c < most_number) × (d < most_number) × (at + line_bytes ≤ length out.old) }
-    ensures { Wrote line_bytes out.old at (row_line letter a b c d) out.new result }
-{
-    let end = put_byte(out, at, letter);
-    let end = put_next(out, end, a);
-    let end = put_next(out, end, b);
-    let end = put_next(out, end, c);
-    let end = put_next(out, end, d);
-    put_byte(out, end, b'\n')
-}
-
-// The first line: k and L.
-pub fn put_head(out: &mut [u8], at: usize, k: u32, bits: u32) -> usize
-    requires { (k < most_number) × (bits < most_number) × (at + line_bytes ≤ length out.old) }
-    ensures { Wrote line_bytes out.old at (head_line k bits) out.new result }
-{
-    let end = put_word(out, at, b"k");
-    let end = put_next(out, end, k);
-    let end = put_word(out, end, b" L");
-    let end = put_next(out, end, bits);
-    put_byte(out, end, b'\n')
-}
-
-// The sums of the gaps.
-pub fn put_sums(out: &mut [u8], at: usize, a: u32, b: u32) -> usize
-    requires { (a < most_number) × (b < most_number) × (at + line_bytes ≤ length out.old) }
-    ensures { Wrote line_bytes out.old at (sums_line a b) out.new result }
-{
-    let end = put_word(out, at, b"sum");
-    let end = put_next(out, end, a);
-    let end = put_next(out, end, b);
-    put_byte(out, end, b'\n')
-}
-
-// The last word.
-fn put_verdict(out: &mut [u8], at: usize, me: bool) -> usize
-    requires { at + 3 ≤ length out.old }
-    ensures { Wrote 3 out.old at (verdict me) out.new result }
-{
-    if me {
-        return put_word(out, at, b"yes");
+impl Page<'_> {
+    // A letter and four numbers: a `t` line or an `l` line.
+    pub fn row(&mut self, letter: u8, a: u32, b: u32, c: u32, d: u32)
+        requires { (a < most_number) × (b < most_number) × (c < most_number) × (d < most_number) × (self.old.end + line_bytes ≤ length self.old.out.now) }
+        ensures { Added line_bytes self.old (row_line letter a b c d) self.new }
+    {
+        self.byte(letter);
+        self.next(a);
+        self.next(b);
+        self.next(c);
+        self.next(d);
+        self.byte(b'\n');
     }
-    put_word(out, at, b"no")
-}
 
-// The last line.
-pub fn put_me(out: &mut [u8], at: usize, me: bool) -> usize
-    requires { at + line_bytes ≤ length out.old }
-    ensures { Wrote line_bytes out.old at (me_line me) out.new result }
-{
-    let end = put_word(out, at, b"ME ");
-    let end = put_verdict(out, end, me);
-    put_byte(out, end, b'\n')
-}
+    // The first line: k and L.
+    pub fn head(&mut self, k: u32, bits: u32)
+        requires { (k < most_number) × (bits < most_number) × (self.old.end + line_bytes ≤ length self.old.out.now) }
+        ensures { Added line_bytes self.old (head_line k bits) self.new }
+    {
+        self.word(b"k");
+        self.next(k);
+        self.word(b" L");
+        self.next(bits);
+        self.byte(b'\n');
+    }
 
-// The line of a refusal.
-pub fn put_refused(out: &mut [u8], at: usize, refusal: u32) -> usize
-    requires { (refusal < most_number) × (at + line_bytes ≤ length out.old) }
-    ensures { Wrote line_bytes out.old at (refused_line refusal) out.new result }
-{
-    let end = put_word(out, at, b"refused");
-    let end = put_next(out, end, refusal);
-    put_byte(out, end, b'\n')
+    // The sums of the gaps.
+    pub fn sums(&mut self, a: u32, b: u32)
+        requires { (a < most_number) × (b < most_number) × (self.old.end + line_bytes ≤ length self.old.out.now) }
+        ensures { Added line_bytes self.old (sums_line a b) self.new }
+    {
+        self.word(b"sum");
+        self.next(a);
+        self.next(b);
+        self.byte(b'\n');
+    }
+
+    // The last word.
+    fn verdict(&mut self, me: bool)
+        requires { self.old.end + 3 ≤ length self.old.out.now }
+        ensures { Added 3 self.old (verdict me) self.new }
+    {
+        if me {
+            self.word(b"yes");
+        } else {
+            self.word(b"no");
+        }
+    }
+
+    // The last line.
+    pub fn me(&mut self, me: bool)
+        requires { self.old.end + line_bytes ≤ length self.old.out.now }
+        ensures { Added line_bytes self.old (me_line me) self.new }
+    {
+        self.word(b"ME ");
+        self.verdict(me);
+        self.byte(b'\n');
+    }
+
+    // The line of a refusal.
+    pub fn refused(&mut self, refusal: u32)
+        requires { (refusal < most_number) × (self.old.end + line_bytes ≤ length self.old.out.now) }
+        ensures { Added line_bytes self.old (refused_line refusal) self.new }
+    {
+        self.word(b"refused");
+        self.next(refusal);
+        self.byte(b'\n');
+    }
 }

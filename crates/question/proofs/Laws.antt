@@ -1,32 +1,32 @@
--- From rows in a buffer to the answer.
-use mathlib.Core.Path.{◌≡◌, refl, sym, ap, ◌∙◌}
-use mathlib.Core.Bool.{Bool, true, false, ◌&&◌, true≢false}
-use mathlib.Core.List.{List}
-use mathlib.Core.Logic.{by_cases}
-use native.Mathlib.Decide.{dec_lt}
-use Prim.Native.Nat.{ℕ, zero, suc, ◌+◌, ◌*◌, ◌/◌, ◌%◌, ◌^◌, ◌≤◌, ◌<◌}
-use native.Mathlib.Nat.{zero-add}
-use native.Mathlib.Omega.{arith}
-use borrow.Author.Tests.{ltb-false}
-use lib.Dec.{ltb, lit<}
-use lib.ListN.{length, get_or, replicate, get_or-eq_default}
+-- From rows in a buffer to the answer: the first dependent set of rows is that of the output bits, and more rows than the state has bits are never all independent.
+use Rattle.std.specs.Prelude.{◌≡◌, refl, Bool, true, false, ◌&&◌, List, ℕ, zero, suc, ◌+◌, ◌*◌, ◌/◌, ◌%◌, ◌^◌, ◌≤◌, ◌<◌, length, get_or, replicate, Option, Some, None, Ok, Err}
+use Rattle.std.proofs.Common.{sym, ap, ◌∙◌, true≢false, arith, zero-add, lit<}
+use Rattle.std.proofs.Math.ListN.{get_or-eq_default}
+use Rattle.std.proofs.Math.Logic.{by_cases}
+use Rattle.std.proofs.Math.Decide.{dec_lt}
+use Rattle.std.proofs.lemmas.Option.{none-some}
 use Rattle.theory.specs.Def.{Linear}
 use Rattle.theory.specs.Laws.{xorsum_cong}
 use Rattle.digits.specs.Def.{bits_of, bits_from}
 use Rattle.digits.specs.Laws.{digit-zero}
 use Rattle.kinds.specs.Generator.{Machine}
 use Rattle.document.specs.declared.Fields.{Fields}
+use Rattle.document.specs.declared.Dimension.{Dimension}
+use Rattle.document.specs.declared.Resolution.{Resolution}
+use Rattle.document.specs.declared.refusals.Refusal.{Refusal}
+use Rattle.document.proofs.Refused.{refused}
+use Rattle.document.specs.Answer.{refusal_number}
 use Rattle.document.specs.Limits.{row_words, most_bits, work_words}
 use Rattle.document.specs.Generator.{machine, size}
-use Rattle.document.specs.Refusals.{field_cases, outside, question_refusal}
-use Rattle.document.specs.Lowest.{field_rises, after}
-use Rattle.document.specs.Ranges.{Accepted, passed, inside}
-use Rattle.document.proofs.Accepted.{accepted}
+use Rattle.document.specs.Refusals.{question_refusal}
+use Rattle.document.specs.Ranges.{Accepted}
 use Rattle.document.specs.Cells.{cell_bit, Answer}
 use Rattle.document.specs.Memory.{Front}
 use Rattle.document.specs.Theorems.{machine_linear, cell_linear, yes_is_even}
-use Rattle.running.specs.declared.Prepared.{Prepared}
+use Rattle.running.specs.declared.ready.Prepared.{Prepared}
 use Rattle.running.specs.Prepared.{PreparedFor, machine_of}
+use Rattle.running.specs.Theorems.{prepared_size, prepared_width}
+use Rattle.rows.specs.Theorems.{RowOf}
 use Rattle.span.specs.Def.{RowsOf, DependentRows, IndependentRows}
 use Rattle.span.specs.Leads.{dependent_same, independent_same}
 use Rattle.span.specs.Outputs.{independent_outputs}
@@ -34,34 +34,14 @@ use Rattle.span.specs.Theorems as Span
 use Rattle.elimination.specs.Words.{Cleared}
 use Rattle.elimination.specs.Rows.{rows_of, set_of, Tagging, Outcome}
 use Rattle.elimination.specs.Theorems.{finished_independent, stopped_independent, stopped_set, stopped_set_ends}
-use Rattle.elimination.specs.declared.Found.{Found}
-use Rattle.elimination.specs.declared.Found.TheVariants.{At, Nothing}
 use Rattle.elimination.proofs.RowBits.{bits_same}
+use Rattle.filling.specs.declared.bits.OutputBits.{OutputBits}
+use Rattle.filling.specs.Asked.{AskedFor}
 use Rattle.filling.specs.Rows.{stride, state_row, Filled}
 use Rattle.filling.specs.Theorems.{rows_cells, not_yes}
-use Rattle.question.specs.declared.Reply.{Reply}
-use Rattle.question.specs.Searches.{Enough, FirstOf, number_of, Searched, ReplyOf, Decided}
-
--- ---- where nothing refuses
-
-pub record Passed (g : Fields) (t l room : ℕ) : Type 0 where
-  pub accepted : Accepted g
-  pub t_least : 1 ≤ t
-  pub t_most : t ≤ size g
-  pub l_least : 1 ≤ l
-  pub l_most : l ≤ g.bits
-  pub enough : work_words ≤ room
-
-pub all_passed : (g : Fields) (t l room : ℕ) → question_refusal g t l room ≡ 0 → Passed g t l room
-unfolding question_refusal
-all_passed g t l room e =
-    let (e₁, e₂) = after 0 (field_cases g) _ (field_rises g) e in
-    let (b₁, e₃) = passed 6 (outside 1 (size g) t) _ e₂ in
-    let (b₂, e₄) = passed 7 (outside 1 g.bits l) _ e₃ in
-    let (b₃, e₅) = passed 10 (ltb room work_words) _ e₄ in
-    let (t₁, t₂) = inside 1 (size g) t b₁ in
-    let (l₁, l₂) = inside 1 g.bits l b₂ in
-    record { accepted = accepted g e₁; t_least = t₁; t_most = t₂; l_least = l₁; l_most = l₂; enough = ltb-false room work_words b₃ }
+use Rattle.question.specs.declared.Dependent.{Dependent}
+use Rattle.question.specs.Promises.{Asked, reply_of}
+use Rattle.question.specs.Searches.{Enough, FirstOf, Searched, SetOf, Gives, Finds, Decided}
 
 pub zeros : (n i : ℕ) → ◌≡◌ {A = ℕ} (get_or (replicate n 0) i 0) 0
 zeros zero i = refl
@@ -80,25 +60,21 @@ module _ (M : Machine) (l n : ℕ) (few : n ≤ 64 * row_words) (ws filled tagge
       let e : i * stride + 0 ≡ i * stride = omega arith in
       sym (bits_same filled tagged (i * stride) b (y.before i (b / 64) h (omega arith)) ∙ rw e at ((x.rows i h).bits b f))
 
-  pub searched : (slots out slots' : List ℕ) (f : Found) → Outcome tagged n stride stride row_words slots out slots' f → Searched M l n ws (number_of n f) out
-  searched slots out slots' (At d) z = record {
-    most = omega (arith, z.place);
+  pub searched : (slots out slots' : List ℕ) (found : Option ℕ) → Outcome tagged n stride stride row_words slots out slots' found → Searched M l n ws found out
+  searched slots out slots' (Some d) z = record {
     rows = λ i h. (x.rows i h).is;
-    found = λ _. record {
+    cases = record {
       place = z.place;
       set = dependent_same (state_row M l) (λ i h. came i (omega (arith, z.place))) (stopped_set (omega arith) z (omega arith) y.tags);
       before = independent_same (64 * row_words) d (rows_of tagged stride) (state_row M l) (λ i h. came i (omega (arith, z.place))) (stopped_independent (omega arith) z);
       ends = stopped_set_ends (omega arith) z (omega arith) y.tags;
     };
-    none = λ e. absurd (omega (arith, z.place));
     long = z.state.long ∙ y.long ∙ x.long;
     behind = λ j h. z.state.behind j (omega (arith, z.place)) ∙ y.behind j h ∙ x.behind j h;
   }
-  searched slots out slots' Nothing z = record {
-    most = omega arith;
+  searched slots out slots' None z = record {
     rows = λ i h. (x.rows i h).is;
-    found = λ h. absurd (omega arith);
-    none = λ _. independent_same (64 * row_words) n (rows_of tagged stride) (state_row M l) came (finished_independent (omega arith) z);
+    cases = independent_same (64 * row_words) n (rows_of tagged stride) (state_row M l) came (finished_independent (omega arith) z);
     long = z.state.long ∙ y.long ∙ x.long;
     behind = λ j h. z.state.behind j h ∙ y.behind j h ∙ x.behind j h;
   }
@@ -142,48 +118,41 @@ first_same M l n d S T f e x = record {
       cancels = λ i g. xorsum_cong (suc d) _ _ (λ p q. ap (λ b. b && state_row M l p i) (e p (omega arith))) ∙ y.cancels i g;
     }
 
-module _ (M : Machine) (l n : ℕ) (few : n ≤ most_bits + 1) (was mid : List ℕ) (d : ℕ) (x : Searched M l n was d mid) (r : Reply) (y : ReplyOf n d mid r)
-    (now : List ℕ) (z : Cleared mid 0 work_words now) where
-  memory : Front work_words (λ _. 0) was now
-  memory = record {
-    long = z.kept.long ∙ x.long;
-    front = λ i h. rw zero-add at (z.here i h);
-    rest = λ i h. z.kept.above i (omega arith) ∙ x.behind i (omega arith);
+module _ (M : Machine) (l n : ℕ) (few : n ≤ most_bits + 1) (was mid : List ℕ) where
+  -- the set that a row carries, copied
+  carried : (d : ℕ) (first : Dependent) → FirstOf M l n d (set_of mid stride row_words d) → SetOf mid d first → Finds M l n first
+  carried d first f y = record {
+    first_of = rw y.place (first_same M l n d (set_of mid stride row_words d) (bits_of first.set) (omega arith) same f);
+    long = y.long;
+    small = y.small;
   }
-
-  pub decided : Decided M l n was r now
-  decided = by_cases (dec_lt d n)
-      (λ h. let (a, b, c) = y.no h in record {
-        refusal = y.refusal;
-        long = y.long;
-        small = y.small;
-        rows = x.rows;
-        no = λ _. rw b (first_same M l n d (set_of mid stride row_words d) (bits_of r.set) (omega arith) (same c) (x.found h));
-        yes = λ e. absurd (true≢false (sym e ∙ a));
-        memory = memory;
-      })
-      (λ h. let (a, b, c) = y.yes (omega arith) in record {
-        refusal = y.refusal;
-        long = y.long;
-        small = y.small;
-        rows = x.rows;
-        no = λ e. absurd (true≢false (sym a ∙ e));
-        yes = λ _. (x.none (omega (arith, x.most)), b, zero_bits r.set c);
-        memory = memory;
-      })
     where
-      same : ((k : ℕ) → k < row_words → get_or r.set k 0 ≡ get_or mid (d * stride + row_words + k) 0) → (i : ℕ) → i < 64 * row_words → bits_of r.set i ≡ set_of mid stride row_words d i
-      same e i h = copied_bits mid r.set (d * stride + row_words) e i h ∙ half_bits mid (d * stride) i
+      same : (i : ℕ) → i < 64 * row_words → bits_of first.set i ≡ set_of mid stride row_words d i
+      same i h = copied_bits mid first.set (d * stride + row_words) y.words i h ∙ half_bits mid (d * stride) i
+
+  module _ (now : List ℕ) (z : Cleared mid 0 work_words now) where
+    memory : (found : Option ℕ) → Searched M l n was found mid → Front work_words (λ _. 0) was now
+    memory found x = record {
+      long = z.kept.long ∙ x.long;
+      front = λ i h. rw zero-add at (z.here i h);
+      rest = λ i h. z.kept.above i (omega arith) ∙ x.behind i (omega arith);
+    }
+
+    pub decided : (found : Option ℕ) (first : Option Dependent) → Searched M l n was found mid → Gives mid found first → Decided M l n was first now
+    decided None None x y = record { rows = x.rows; cases = x.cases; memory = memory None x }
+    decided None (Some first) x y = absurd (none-some first (sym y))
+    decided (Some d) None x y = absurd y
+    decided (Some d) (Some first) x y = record { rows = x.rows; cases = carried d first x.cases y; memory = memory (Some d) x }
 
 -- ---- the answer
 
 module _ (g : Fields) (p : Prepared) (a : Accepted g) (y : PreparedFor g p) (t l : ℕ) (lo : 0 < l) (hi : l ≤ (machine g).width) (n : ℕ) (e : Enough (size g) (t * l) n)
-    (was : List ℕ) (r : Reply) (now : List ℕ) (x : Decided (machine_of p) l n was r now) where
+    (rows : (i : ℕ) → i < n → RowOf (machine_of p) l i (state_row (machine_of p) l i)) where
   linear : (i : ℕ) → Linear (cell_bit (machine g) l i)
   linear = cell_linear (machine g) (machine_linear g) l
 
   cells : RowsOf (64 * row_words) n (state_row (machine_of p) l) (cell_bit (machine g) l)
-  cells = rows_cells g p a y l lo hi n (state_row (machine_of p) l) x.rows (λ _ _ _ _. refl)
+  cells = rows_cells g p a y l lo hi n (state_row (machine_of p) l) rows (λ _ _ _ _. refl)
 
   -- no more than k rows are independent, so that all t·l were looked at
   all : IndependentRows (64 * row_words) (state_row (machine_of p) l) n → n ≡ t * l
@@ -191,33 +160,63 @@ module _ (g : Fields) (p : Prepared) (a : Accepted g) (y : PreparedFor g p) (t l
       (λ h. absurd (omega (arith, e.past h, Span.bound cells linear n (omega arith) i)))
       (λ h. e.all (omega arith))
 
-  on_yes : r.yes ≡ true → Answer (machine g) t l r.yes r.d (bits_of r.set)
-  on_yes h =
-      let (i, z, b) = x.yes h in
+  pub yes_answer : IndependentRows (64 * row_words) (state_row (machine_of p) l) n → Answer (machine g) t l true 0 (bits_of (replicate row_words 0))
+  yes_answer i =
       let q : n ≡ t * l = all i in
       record {
-        verdict = h ∙ sym ((yes_is_even (machine g) (machine_linear g) t l).1 (rw q at (Span.even cells linear n (omega arith) i)));
-        even = λ _. (z, b);
-        uneven = λ f. absurd (true≢false (sym h ∙ f));
+        verdict = sym ((yes_is_even (machine g) (machine_linear g) t l).1 (rw q at (Span.even cells linear n (omega arith) i)));
+        even = λ _. (refl, zero_bits (replicate row_words 0) (zeros row_words));
+        uneven = λ f. absurd (true≢false f);
       }
 
-  on_no : r.yes ≡ false → Answer (machine g) t l r.yes r.d (bits_of r.set)
-  on_no h =
-      let f = x.no h in
+  pub no_answer : (first : Dependent) → Finds (machine_of p) l n first → Answer (machine g) t l false first.d (bits_of first.set)
+  no_answer first x =
+      let f = x.first_of in
       record {
-        verdict = h ∙ sym (not_yes _ (λ b. Span.uneven cells linear r.d (bits_of r.set) f.place f.set (t * l) (omega (arith, f.place, e.under)) ((yes_is_even (machine g) (machine_linear g) t l).0 b)));
-        even = λ b. absurd (true≢false (sym b ∙ h));
+        verdict = sym (not_yes _ (λ b. Span.uneven cells linear first.d (bits_of first.set) f.place f.set (t * l) (omega (arith, f.place, e.under)) ((yes_is_even (machine g) (machine_linear g) t l).0 b)));
+        even = λ b. absurd (true≢false (sym b));
         uneven = λ _. record {
           place = omega (arith, f.place, e.under);
-          set = Span.dependent_outputs cells r.d f.place (bits_of r.set) f.set;
-          past = λ i b. by_cases (dec_lt i (64 * row_words)) (f.ends i b) (λ c. past_bits r.set x.long i (omega arith));
-          earliest = independent_outputs cells r.d (omega (arith, f.place)) f.before;
+          set = Span.dependent_outputs cells first.d f.place (bits_of first.set) f.set;
+          past = λ i b. by_cases (dec_lt i (64 * row_words)) (f.ends i b) (λ c. past_bits first.set x.long i (omega arith));
+          earliest = independent_outputs cells first.d (omega (arith, f.place)) f.before;
         };
       }
 
-  pub answered : Answer (machine g) t l r.yes r.d (bits_of r.set)
-  answered = go r.yes refl
-    where
-      go : (b : Bool) → r.yes ≡ b → Answer (machine g) t l r.yes r.d (bits_of r.set)
-      go true = on_yes
-      go false = on_no
+-- ---- the promise, of an answer and of a refusal
+
+module _ (g : Fields) (t : Dimension) (l : Resolution) (was : List ℕ) where
+  pub refused_as : (r : Refusal) → refusal_number r ≡ question_refusal g t.0 l.0 (length was) → Asked g t l was (reply_of (Err r)) was
+  refused_as r e = record {
+    refusal = e;
+    long = refl;
+    small = λ k _. zeros_small row_words k;
+    answer = λ z. absurd (refused r z);
+    memory = λ z. absurd (refused r z);
+    refused = λ _. (refl, refl, zeros row_words, refl);
+  }
+
+  module _ (bits : OutputBits) (x : AskedFor g t.0 l.0 bits) (e : 0 ≡ question_refusal g t.0 l.0 (length was)) (n : ℕ) (m : Enough (machine_of bits.generator).size (t.0 * bits.l) n) where
+    wide : bits.l ≤ (machine g).width
+    wide = omega (arith, bits.within, prepared_width g bits.generator x.passed.accepted x.prepared)
+
+    counted : Enough (size g) (t.0 * bits.l) n
+    counted = rw (prepared_size g bits.generator x.passed.accepted x.prepared) at m
+
+    pub answered_as : (now : List ℕ) (first : Option Dependent) → Decided (machine_of bits.generator) bits.l n was first now → Asked g t l was (reply_of (Ok first)) now
+    answered_as now None d = record {
+      refusal = e;
+      long = refl;
+      small = λ k _. zeros_small row_words k;
+      answer = λ _. rw x.same at (yes_answer g bits.generator x.passed.accepted x.prepared t.0 bits.l bits.some wide n counted d.rows d.cases);
+      memory = λ _. d.memory;
+      refused = λ z. absurd (z refl);
+    }
+    answered_as now (Some first) d = record {
+      refusal = e;
+      long = d.cases.long;
+      small = d.cases.small;
+      answer = λ _. rw x.same at (no_answer g bits.generator x.passed.accepted x.prepared t.0 bits.l bits.some wide n counted d.rows first d.cases);
+      memory = λ _. d.memory;
+      refused = λ z. absurd (z refl);
+    }

@@ -1,5 +1,5 @@
 -- What the steps of a question find.
-use Rattle.std.specs.Prelude.{◌≡◌, Bool, true, false, List, ℕ, ◌+◌, ◌*◌, ◌^◌, ◌<◌, ◌≤◌, length, get_or}
+use Rattle.std.specs.Prelude.{◌≡◌, Bool, false, List, ℕ, ◌+◌, ◌*◌, ◌^◌, ◌<◌, ◌≤◌, length, get_or, Option, None, MatchOption, IsSomeAnd}
 use Rattle.digits.specs.Def.{bits_of}
 use Rattle.kinds.specs.Generator.{Machine}
 use Rattle.document.specs.Limits.{row_words, work_words}
@@ -7,10 +7,8 @@ use Rattle.document.specs.Memory.{Front}
 use Rattle.rows.specs.Theorems.{RowOf}
 use Rattle.span.specs.Def.{DependentRows, IndependentRows}
 use Rattle.elimination.specs.Rows.{set_of}
-use Rattle.elimination.specs.declared.Found.{Found}
-use Rattle.elimination.specs.declared.Found.TheVariants.{At, Nothing}
 use Rattle.filling.specs.Rows.{stride, state_row}
-use Rattle.question.specs.declared.Reply.{Reply}
+use Rattle.question.specs.declared.Dependent.{Dependent}
 
 -- n rows are enough to tell of m output bits, where a state has k bits
 pub record Enough (k m n : ℕ) : Type 0 where
@@ -26,34 +24,32 @@ pub record FirstOf (M : Machine) (l n d : ℕ) (S : ℕ → Bool) : Type 0 where
   pub before : IndependentRows (64 * row_words) (state_row M l) d
   pub ends : (i : ℕ) → d < i → i < 64 * row_words → S i ≡ false
 
--- what was found, as a number: n for nothing
-abbrev pub number_of : ℕ → Found → ℕ
-number_of n (At d) = d
-number_of n Nothing = n
-
--- the set that ends at d stands in the second half of row d; or d is n, and the n rows are independent
-pub record Searched (M : Machine) (l n : ℕ) (ws : List ℕ) (d : ℕ) (out : List ℕ) : Type 0 where
-  pub most : d ≤ n
+-- The set that ends at d stands in the second half of row d, the row found; or none is, and the n rows are independent.
+pub record Searched (M : Machine) (l n : ℕ) (ws : List ℕ) (found : Option ℕ) (out : List ℕ) : Type 0 where
   pub rows : (i : ℕ) → i < n → RowOf M l i (state_row M l i)
-  pub found : d < n → FirstOf M l n d (set_of out stride row_words d)
-  pub none : d ≡ n → IndependentRows (64 * row_words) (state_row M l) n
+  pub cases : MatchOption found (IndependentRows (64 * row_words) (state_row M l) n) (λ d. FirstOf M l n d (set_of out stride row_words d))
   pub long : length out ≡ length ws
   pub behind : (j : ℕ) → n * stride ≤ j → get_or out j 0 ≡ get_or ws j 0
 
--- no, with the words of the set; or yes
-pub record ReplyOf (n d : ℕ) (ws : List ℕ) (r : Reply) : Type 0 where
-  pub refusal : r.refusal ≡ 0
-  pub long : length r.set ≡ row_words
-  pub small : (k : ℕ) → k < row_words → get_or r.set k 0 < 2 ^ 64
-  pub no : d < n → (r.yes ≡ false) × (r.d ≡ d) × ((k : ℕ) → k < row_words → get_or r.set k 0 ≡ get_or ws (d * stride + row_words + k) 0)
-  pub yes : n ≤ d → (r.yes ≡ true) × (r.d ≡ 0) × ((k : ℕ) → ◌≡◌ {A = ℕ} (get_or r.set k 0) 0)
+-- a set that ends at d, in the words of the second half of row d
+pub record SetOf (ws : List ℕ) (d : ℕ) (first : Dependent) : Type 0 where
+  pub place : first.d ≡ d
+  pub long : length first.set ≡ row_words
+  pub small : (k : ℕ) → k < row_words → get_or first.set k 0 < 2 ^ 64
+  pub words : (k : ℕ) → k < row_words → get_or first.set k 0 ≡ get_or ws (d * stride + row_words + k) 0
+
+-- such a set for the row found, if one was
+abbrev pub Gives : List ℕ → Option ℕ → Option Dependent → Type 0
+Gives ws found first = MatchOption found (first ≡ None) (λ d. IsSomeAnd first (SetOf ws d))
+
+-- the first dependent set of n rows, in eight words
+pub record Finds (M : Machine) (l n : ℕ) (first : Dependent) : Type 0 where
+  pub first_of : FirstOf M l n first.d (bits_of first.set)
+  pub long : length first.set ≡ row_words
+  pub small : (k : ℕ) → k < row_words → get_or first.set k 0 < 2 ^ 64
 
 -- the verdict on n rows, and the work buffer as zero
-pub record Decided (M : Machine) (l n : ℕ) (was : List ℕ) (r : Reply) (now : List ℕ) : Type 0 where
-  pub refusal : r.refusal ≡ 0
-  pub long : length r.set ≡ row_words
-  pub small : (k : ℕ) → k < row_words → get_or r.set k 0 < 2 ^ 64
+pub record Decided (M : Machine) (l n : ℕ) (was : List ℕ) (first : Option Dependent) (now : List ℕ) : Type 0 where
   pub rows : (i : ℕ) → i < n → RowOf M l i (state_row M l i)
-  pub no : r.yes ≡ false → FirstOf M l n r.d (bits_of r.set)
-  pub yes : r.yes ≡ true → IndependentRows (64 * row_words) (state_row M l) n × (r.d ≡ 0) × ((i : ℕ) → bits_of r.set i ≡ false)
+  pub cases : MatchOption first (IndependentRows (64 * row_words) (state_row M l) n) (Finds M l n)
   pub memory : Front work_words (λ _. 0) was now

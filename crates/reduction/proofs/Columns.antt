@@ -14,7 +14,7 @@ use Rattle.span.specs.Spans.{spanned_row, spanned_same, spanned_add}
 use Rattle.span.specs.Columns.{reducing_start, reducing_turn, reducing_pass}
 use Rattle.elimination.specs.Words.{Kept, Added}
 use Rattle.elimination.specs.Rows.{rows_of}
-use Rattle.elimination.specs.declared.Found.TheVariants.{At, Nothing}
+use Rattle.std.specs.Prelude.{Some, None}
 use Rattle.elimination.proofs.Words.{row_end, kept_all, kept_from}
 use Rattle.elimination.proofs.RowBits.{others_same, added_row}
 use Rattle.reduction.specs.Columns.{RowsKept, Holder, AddedIf, Column, brought, Brought, Pivoted, ReducedForm}
@@ -133,10 +133,10 @@ pub form_start : (ws : List ℕ) (n stride width : ℕ) → ReducedForm ws n str
 form_start ws n stride width = record { kept = rows_kept_all ws n stride width; rows = reducing_start (64 * width) n (rows_of ws stride) }
 
 module _ (ws : List ℕ) (n stride width c rank : ℕ) (buf : List ℕ) (x : ReducedForm ws n stride width c rank buf) (hc : c < 64 * width) where
-  pub form_pass : Holder buf rank n stride c Nothing → ReducedForm ws n stride width (c + 1) rank buf
+  pub form_pass : Holder buf rank n stride c None → ReducedForm ws n stride width (c + 1) rank buf
   form_pass z = record { kept = x.kept; rows = reducing_pass x.rows z }
 
-  module _ (p : ℕ) (z : Holder buf rank n stride c (At p)) (out : List ℕ) (y : Pivoted buf n rank p stride width c out) where
+  module _ (p : ℕ) (z : Holder buf rank n stride c (Some p)) (out : List ℕ) (y : Pivoted buf n rank p stride width c out) where
     -- in the two cases, what is brought
     ρ_is : (A : Bool → Type 0) (i : ℕ) → A (rows_of buf stride rank i) → A (rows_of buf stride rank i ⊕ rows_of buf stride p i) → A (brought buf rank p stride i)
     unfolding brought
@@ -187,10 +187,6 @@ module _ (ws : List ℕ) (n stride width c rank : ℕ) (buf : List ℕ) (x : Red
         }
 
 -- ---- `find_row`
-
-pub held_more : (ws : List ℕ) (from p stride c : ℕ) → ((q : ℕ) → from ≤ q → q < p → rows_of ws stride q c ≡ false) → rows_of ws stride p c ≡ false
-    → (q : ℕ) → from ≤ q → q < p + 1 → rows_of ws stride q c ≡ false
-held_more ws from p stride c f e q h l = by_cases (dec_lt q p) (λ a. f q h a) (λ a. let g : q ≡ p = omega arith in rw g e)
 
 pub held : (p n stride c : ℕ) → p < n → c / 64 < stride → p * stride + c / 64 < n * stride
 held p n stride c h l = omega (arith, row_end p n stride stride h (omega arith))

@@ -6,18 +6,20 @@ use native.Mathlib.Decide.{dec_lt}
 use native.Mathlib.Nat.{add-mul, mul-le-mul_left}
 use Prim.Native.Nat.{ℕ, ◌+◌, ◌-◌, ◌*◌, ◌/◌, ◌<◌, ◌≤◌}
 use native.Mathlib.Omega.{arith}
+use Rattle.std.specs.List.{CopiedTo, SameBelow, SameFrom}
 use Rattle.theory.specs.Def.{Reduced}
 use Rattle.digits.specs.Def.{bits_from}
+use lib.ListN.{length, get_or}
 use Rattle.elimination.specs.Rows.{rows_of}
-use Rattle.elimination.specs.Words.{Cleared}
+use Rattle.elimination.specs.Words.{Cleared, Written}
 use Rattle.elimination.proofs.Words.{row_end}
-use Rattle.reduction.specs.Packs.{Copied, Moved, Packed}
+use Rattle.reduction.specs.Packs.{Moved, Packed}
 
 pub moved_none : (ws : List ℕ) (stride width : ℕ) → Moved ws 0 stride width ws
 moved_none ws stride width = record { long = refl; words = λ p k h l. absurd (omega arith); behind = λ j h. refl }
 
 pub moved_more : (ws : List ℕ) (p stride width : ℕ) (buf : List ℕ) → width ≤ stride → Moved ws p stride width buf → (out : List ℕ)
-    → Copied buf (p * width) (p * stride) width out → Moved ws (p + 1) stride width out
+    → Written buf (p * width) width (λ k. get_or buf (p * stride + k) 0) out → Moved ws (p + 1) stride width out
 moved_more ws p stride width buf w x out y =
     record {
       long = y.kept.long ∙ x.long;
@@ -28,6 +30,15 @@ moved_more ws p stride width buf w x out y =
       behind = λ j h.
           let e : (p + 1) * width ≡ p * width + width = omega (arith, add-mul p 1 width) in
           y.kept.above j (omega arith) ∙ x.behind j (omega arith);
+    }
+
+-- what `copy_within` of the n words at src ensures of the words
+pub copied : {ws out : List ℕ} {dst : ℕ} (src n : ℕ) → length out ≡ length ws
+    → CopiedTo ws out src dst (src + n - src) × SameBelow ws out dst × SameFrom ws out (dst + (src + n - src)) → Written ws dst n (λ k. get_or ws (src + k) 0) out
+copied {dst = dst} src n l (here, below, above) =
+    record {
+      kept = record { long = l; below = λ j h. below j 0 h; above = λ j h. above j 0 (omega arith) };
+      here = λ k h. let e : dst + k - dst ≡ k = omega arith in rw e at (here (dst + k) 0 (omega arith) (omega arith));
     }
 
 pub packed : (ws : List ℕ) (n stride width total : ℕ) (mid out : List ℕ) → n * width ≤ total → Moved ws n stride width mid

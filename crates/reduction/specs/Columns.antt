@@ -1,12 +1,10 @@
 -- What the reduction does to the rows in a buffer.
-use Rattle.std.specs.Prelude.{◌≡◌, List, true, false, ◌&&◌, cond, ℕ, ◌+◌, ◌*◌, ◌<◌, ◌≤◌, length, get_or, eqb}
+use Rattle.std.specs.Prelude.{Option, MatchOption, ◌≡◌, List, true, false, ◌&&◌, cond, ℕ, ◌+◌, ◌*◌, ◌<◌, ◌≤◌, length, get_or, eqb}
 use Rattle.theory.specs.Def.{◌⊕◌}
 use Rattle.digits.specs.Def.{Word}
 use Rattle.span.specs.Def.{Reducing, Swept}
 use Rattle.elimination.specs.Words.{Kept}
 use Rattle.elimination.specs.Rows.{rows_of}
-use Rattle.elimination.specs.declared.Found.{Found}
-use Rattle.elimination.specs.declared.Found.TheVariants.{At, Nothing}
 
 -- `out` is `ws` but for the first `width` words of the first n rows
 pub record RowsKept (ws : List ℕ) (n stride width : ℕ) (out : List ℕ) : Type 0 where
@@ -15,9 +13,10 @@ pub record RowsKept (ws : List ℕ) (n stride width : ℕ) (out : List ℕ) : Ty
   pub behind : (j : ℕ) → n * stride ≤ j → get_or out j 0 ≡ get_or ws j 0
 
 -- the first row from `from` on that has the bit c
-abbrev pub Holder : List ℕ → ℕ → ℕ → ℕ → ℕ → Found → Type 0
-Holder ws from n stride c (At p) = (from ≤ p) × (p < n) × (rows_of ws stride p c ≡ true) × ((q : ℕ) → from ≤ q → q < p → rows_of ws stride q c ≡ false)
-Holder ws from n stride c Nothing = (q : ℕ) → from ≤ q → q < n → rows_of ws stride q c ≡ false
+abbrev pub Holder : List ℕ → ℕ → ℕ → ℕ → ℕ → Option ℕ → Type 0
+Holder ws from n stride c r =
+    MatchOption r ((q : ℕ) → from ≤ q → q < n → rows_of ws stride q c ≡ false)
+    (λ p. (from ≤ p) × (p < n) × (rows_of ws stride p c ≡ true) × ((q : ℕ) → from ≤ q → q < p → rows_of ws stride q c ≡ false))
 
 -- row r is added into row q if that has the bit c
 pub record AddedIf (ws : List ℕ) (q r stride width c : ℕ) (out : List ℕ) : Type 0 where

@@ -1,10 +1,5 @@
 -- Rows moved to the front of their buffer.
 use Rattle.std.specs.Prelude.{◌≡◌, List, ℕ, ◌+◌, ◌*◌, ◌<◌, ◌≤◌, length, get_or}
-use Rattle.elimination.specs.Words.{Written}
-
--- the n words at `src` stand at `dst` too
-abbrev pub Copied : List ℕ → ℕ → ℕ → ℕ → List ℕ → Type 0
-Copied ws dst src n out = Written ws dst n (λ k. get_or ws (src + k) 0) out
 
 -- the first `width` words of each of n rows stand at the front, one row behind the other; the words behind them are as they were
 pub record Moved (ws : List ℕ) (n stride width : ℕ) (out : List ℕ) : Type 0 where

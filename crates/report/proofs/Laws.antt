@@ -17,7 +17,7 @@ use Rattle.document.specs.Refusals.{field_cases, report_refusal}
 use Rattle.document.specs.Lowest.{after, field_rises}
 use Rattle.document.specs.Cells.{is_yes}
 use Rattle.elimination.specs.Words.{Cleared}
-use Rattle.running.specs.declared.Prepared.{Prepared}
+use Rattle.running.specs.declared.ready.Prepared.{Prepared}
 use Rattle.running.specs.Prepared.{PreparedFor, machine_of}
 use Rattle.running.specs.Theorems.{prepared_size, prepared_width}
 use Rattle.filling.specs.Rows.{FirstDependent}
@@ -25,10 +25,11 @@ use Rattle.filling.specs.Theorems.{answers_all}
 use Rattle.tables.specs.Tables.{says}
 use Rattle.report.specs.Firsts.{Answers, FirstBits}
 
--- what `first_dependent` finds answers every question of its resolution
-pub answered : (p : Prepared) (l : ℕ) (ws : List ℕ) (d : ℕ) (out : List ℕ) → 1 ≤ l → l ≤ p.bits → FirstDependent (machine_of p) l (p.k + 1) ws d out → Answers p l d
-answered p l ws d out lo hi x =
-    λ g a y t. answers_all g p a y l lo (omega (arith, prepared_width g p a y)) (p.k + 1) ws d out (omega (arith, prepared_size g p a y)) x t
+-- what `first_dependent` finds among more rows than state bits answers every question of its resolution
+pub answered : (p : Prepared) (l n : ℕ) (ws : List ℕ) (d : ℕ) (out : List ℕ) → 1 ≤ l → l ≤ (machine_of p).width → (machine_of p).size < n
+    → FirstDependent (machine_of p) l n ws d out → Answers p l d
+answered p l n ws d out lo hi many x =
+    λ g a y t. answers_all g p a y l lo (omega (arith, prepared_width g p a y)) n ws d out (omega (arith, prepared_size g p a y)) x t
 
 -- one entry more
 pub answers_more : (p : Prepared) (first : List ℕ) (i d : ℕ) → i < length first → ((j : ℕ) → j < i → Answers p (j + 1) (get_or first j 0)) → Answers p (i + 1) d

@@ -1,3 +1,4 @@
 pub mod Promises
 pub mod Firsts
+pub mod Prepared
 pub mod Theorems

@@ -1,22 +1,21 @@
 -- Two replies, with the memory after them, that the promise of a report allows are one; and a report made from the first dependent bits is
 -- that of the machine whose questions they answer.
 use Rattle.std.specs.Prelude.{◌≡◌, List, ℕ, ◌≤◌, eqb, length}
-use Rattle.std.proofs.Common.{sym, ap, ◌∙◌, arith}
+use Rattle.std.proofs.Common.{sym, ap, ◌∙◌}
 use Rattle.std.proofs.Math.Logic.{by_cases}
 use Rattle.std.proofs.Math.Decide.{ℕ_discrete}
 use Rattle.kinds.specs.Generator.{Machine}
 use Rattle.document.specs.declared.Fields.{Fields}
 use Rattle.document.specs.Limits.{most_bits, most_output, work_words}
 use Rattle.document.specs.Generator.{machine}
-use Rattle.document.specs.Ranges.{Accepted}
 use Rattle.document.specs.Cells.{is_yes}
 use Rattle.document.specs.Refusals.{report_refusal}
 use Rattle.document.specs.Agreement.{front_unique}
 use Rattle.document.specs.Report.{resolution, dimension, is_me}
-use Rattle.running.specs.declared.Prepared.{Prepared}
-use Rattle.running.specs.Prepared.{Ready, PreparedFor}
+use Rattle.running.specs.declared.ready.Prepared.{Prepared}
+use Rattle.running.specs.Prepared.{Ready, machine_of}
 use Rattle.running.specs.Theorems.{prepared_ready}
-use Rattle.filling.specs.Theorems.{ready-size}
+use Rattle.filling.specs.Theorems.{ready-size, ready_bits}
 use Rattle.tables.specs.Tables.{says}
 use Rattle.tables.specs.Theorems.{entries_agree, resolutions_are, dimensions_are, resolution_sum_is, dimension_sum_is}
 use Rattle.report.specs.declared.reply.Report.{Report}
@@ -67,22 +66,11 @@ made_is M first k L size width answers r x =
 
 -- ---- a prepared generator
 
--- an output has no more bits than the most
-pub ready_bits : (p : Prepared) → Ready p → p.bits ≤ most_output
-ready_bits p x =
-    by_cases (ℕ_discrete p.kind 1)
-    (λ e. (x.one e).bits)
-    (λ n. by_cases (ℕ_discrete p.kind 2)
-    (λ e. let y = (x.two e).words in omega (arith, y.bits, y.narrow))
-    (λ o. let y = (x.other n o).words in omega (arith, y.bits, y.narrow)))
-
--- what `first_bits` and `of_first` require of a prepared generator
+-- what `first_bits` and `of_first` need to know of a prepared generator
 pub record Fit (p : Prepared) : Type 0 where
   pub ready : Ready p
-  pub size : p.k ≤ most_bits
-  pub bits : p.bits ≤ most_output
+  pub size : (machine_of p).size ≤ most_bits
+  pub bits : (machine_of p).width ≤ most_output
 
-pub prepared_fits : (g : Fields) (p : Prepared) → Accepted g → PreparedFor g p → Fit p
-prepared_fits g p a y =
-    let x = prepared_ready g p a y in
-    record { ready = x; size = ready-size p x; bits = ready_bits p x }
+pub prepared_fits : (p : Prepared) → Fit p
+prepared_fits p = record { ready = prepared_ready p; size = ready-size p; bits = ready_bits p }

@@ -1,5 +1,5 @@
 -- Kinds 3 and 4: the tempering and the move transposed.
-use mathlib.Core.Path.{◌≡◌, sym, ap, ap₂, subst, ◌∙◌}
+use mathlib.Core.Path.{◌≡◌, sym, ap, ap₂, ◌∙◌}
 use mathlib.Core.List.{List}
 use mathlib.Core.Logic.{by_cases}
 use native.Mathlib.Decide.{ℕ_discrete}
@@ -21,19 +21,19 @@ use Rattle.kinds.specs.Reads.{word_in}
 use Rattle.states.specs.Post.{Holds}
 use Rattle.document.specs.Limits.{most_bits}
 use Rattle.states.proofs.StateLaws.{bit_here, bit_other}
-use Rattle.running.specs.declared.Prepared.{Prepared}
-use Rattle.running.specs.Prepared.{Ready4, machine4}
+use Rattle.running.specs.declared.ready.Twister.{Twister}
+use Rattle.running.specs.Prepared.{machine4}
 use Rattle.running.proofs.Masks.{none_set}
 use Rattle.rows.specs.Post.{FirstRow, BackRow}
 use Rattle.rows.proofs.Laws.{from_first, from_back}
 
 -- the words that are read lie within the state
-pub inside4 : (p : Prepared) → Ready4 p → ((p.r - p.m - 1) * p.w + p.w ≤ most_bits) × ((p.r - 1) * p.w + p.w ≤ most_bits) × ((p.r - 2) * p.w + p.w ≤ most_bits)
-inside4 p y =
-    let x = word_in (p.r - p.m - 1) p.r p.w (omega (arith, y.few)) in
-    let z = word_in (p.r - 1) p.r p.w (omega (arith, y.few)) in
-    let u = word_in (p.r - 2) p.r p.w (omega (arith, y.few)) in
-    (omega (arith, y.words.fit), omega (arith, y.words.fit), omega (arith, y.words.fit))
+pub inside4 : (p : Twister) → ((p.r - p.m - 1) * p.w + p.w ≤ most_bits) × ((p.r - 1) * p.w + p.w ≤ most_bits) × ((p.r - 2) * p.w + p.w ≤ most_bits)
+inside4 p =
+    let x = word_in (p.r - p.m - 1) p.r p.w (omega (arith, p.middle.1)) in
+    let z = word_in (p.r - 1) p.r p.w (omega (arith, p.middle.1)) in
+    let u = word_in (p.r - 2) p.r p.w (omega (arith, p.middle.1)) in
+    (omega (arith, p.words.fit), omega (arith, p.words.fit), omega (arith, p.words.fit))
 
 -- 1 << j is the word with bit j alone
 pub unit-word : (w j : ℕ) → w ≤ 32 → j < w → (1 * 2 ^ j % 2 ^ 64 < 2 ^ w) × Same w (digit (1 * 2 ^ j % 2 ^ 64)) (unit j)
@@ -81,18 +81,18 @@ module _ (ws d₀ d₁ d₂ d₃ : List ℕ) (r m w p a y z u : ℕ) (lp : p ≤
       (same_place _ (w - p) _ _ (λ j h. rw e (digit-mod z (w - p) j h) ∙ whole j (omega arith)) i))
       (same_place _ p _ _ (λ j h. digit-shr z (w - p) j ∙ whole (w - p + j) (omega arith)) i)
 
-module _ (p : Prepared) (y : Ready4 p) where
+module _ (p : Twister) where
   pub first4_is : (n j : ℕ) (x : ℕ) (r : List ℕ) → j < p.bits → Holds p.w (first4 p.w p.u p.s (digit p.b) p.t (digit p.c) p.v j) x
       → ((i : ℕ) → bits_of r i ≡ bits_of (replicate n 0) i ⊕ place 0 p.w (digit x) i) → FirstRow (machine4 p) j r
   unfolding mersenne
   first4_is n j x r l h f =
       from_first (machine4 p) _ _
-      (mersenne-rows p.r p.m p.w p.p p.bits (digit p.a) p.u p.s (digit p.b) p.t (digit p.c) p.v y.back y.few y.part y.words.bits y.u y.s y.t y.v)
+      (mersenne-rows p.r p.m p.w p.p p.bits (digit p.a) p.u p.s (digit p.b) p.t (digit p.c) p.v p.middle.0 p.middle.1 p.part p.words.bits p.shifts.0 p.shifts.1 p.shifts.2 p.shifts.3)
       j r l (λ i. f i ∙ ap₂ ◌⊕◌ (none_set n i) (same_place 0 p.w _ _ h.bits i))
 
-  pub back4_is : (row r : List ℕ) → Clear p.k (bits_of row) → ((i : ℕ) → bits_of r i ≡ back4 p.r p.m p.w p.p (digit p.a) (bits_of row) i) → BackRow (machine4 p) row r
+  pub back4_is : (row r : List ℕ) → Clear (p.r * p.w - p.p) (bits_of row) → ((i : ℕ) → bits_of r i ≡ back4 p.r p.m p.w p.p (digit p.a) (bits_of row) i) → BackRow (machine4 p) row r
   unfolding mersenne
   back4_is row r c x =
       from_back (machine4 p) _ _
-      (mersenne-rows p.r p.m p.w p.p p.bits (digit p.a) p.u p.s (digit p.b) p.t (digit p.c) p.v y.back y.few y.part y.words.bits y.u y.s y.t y.v)
-      row r (subst (λ n. Clear n (bits_of row)) y.size c) x
+      (mersenne-rows p.r p.m p.w p.p p.bits (digit p.a) p.u p.s (digit p.b) p.t (digit p.c) p.v p.middle.0 p.middle.1 p.part p.words.bits p.shifts.0 p.shifts.1 p.shifts.2 p.shifts.3)
+      row r c x

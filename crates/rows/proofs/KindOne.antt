@@ -22,8 +22,9 @@ use Rattle.kinds.specs.Adjoint.{taps_at, taps_past, back1_clear}
 use Rattle.states.specs.Post.{state_bits}
 use Rattle.states.proofs.StateLaws.{bits_past}
 use Rattle.document.specs.Limits.{row_words}
-use Rattle.running.specs.declared.Prepared.{Prepared}
-use Rattle.running.specs.Prepared.{Mask, Ready1, tapped, machine1}
+use Rattle.running.specs.declared.ready.Tausworthe.{Tausworthe}
+use Rattle.running.specs.Ranges.{Mask}
+use Rattle.running.specs.Prepared.{tapped, machine1}
 use Rattle.running.proofs.KindOne.{tapped_below}
 use Rattle.rows.specs.Post.{StepsBack, FirstRow, BackRow}
 use Rattle.rows.proofs.Laws.{from_first, from_back}
@@ -78,17 +79,17 @@ steps_more k mask n row r t x y = rw add-one (record {
 
 -- ---- the rows of the machine
 
-module _ (p : Prepared) (y : Ready1 p) where
+module _ (p : Tausworthe) where
   pub unit_clear : (s : List ℕ) → ((i : ℕ) → bits_of s i ≡ unit 0 i) → Clear p.k (bits_of s)
-  unit_clear s e i h = e i ∙ unit_other 0 i (omega (arith, y.mask.least))
+  unit_clear s e i h = e i ∙ unit_other 0 i (omega (arith, p.taps.least))
 
   pub first1_is : (j : ℕ) (s r : List ℕ) → j < p.bits → ((i : ℕ) → bits_of s i ≡ unit 0 i) → StepsBack p.k p.mask j s r → FirstRow (machine1 p) j r
   unfolding tausworthe first1
   first1_is j s r l e x =
-      from_first (machine1 p) _ _ (tausworthe-rows p.k p.bits p.nu (tapped p.k (bits_of p.mask)) y.mask.least) j r l
+      from_first (machine1 p) _ _ (tausworthe-rows p.k p.bits p.nu (tapped p.k (bits_of p.mask)) p.taps.least) j r l
       (λ i. x.bits i ∙ ap (λ z. times j (back1 p.k (tapped p.k (bits_of p.mask))) z i) (fun_ext e))
 
   pub back1_is : (row r : List ℕ) → Clear p.k (bits_of row) → StepsBack p.k p.mask p.nu row r → BackRow (machine1 p) row r
   unfolding tausworthe
   back1_is row r c x =
-      from_back (machine1 p) _ _ (tausworthe-rows p.k p.bits p.nu (tapped p.k (bits_of p.mask)) y.mask.least) row r c x.bits
+      from_back (machine1 p) _ _ (tausworthe-rows p.k p.bits p.nu (tapped p.k (bits_of p.mask)) p.taps.least) row r c x.bits

@@ -11,7 +11,7 @@ use Rattle.document.specs.declared.Fields.{Fields}
 use Rattle.document.specs.Generator.{machine}
 use Rattle.document.specs.Ranges.{Accepted}
 use Rattle.document.specs.Cells.{bit_of, successive, cell_bit}
-use Rattle.running.specs.declared.Prepared.{Prepared}
+use Rattle.running.specs.declared.ready.Prepared.{Prepared}
 use Rattle.running.specs.Prepared.{PreparedFor, machine_of}
 use Rattle.running.specs.Theorems.{prepared_alike}
 use Rattle.rows.specs.Post.{FirstRow, BackRow}

@@ -1,55 +1,26 @@
 // Kind 2. A move transposed takes a row down by a word, and adds its first word at each word that has its coefficient.
-ghost use Rattle.std.specs.Prelude.{◌≡◌, ◌&&◌, ℕ, ◌+◌, ◌<◌, ◌≤◌, ◌^◌};
-ghost use Rattle.theory.specs.Def.{◌⊕◌};
-ghost use Rattle.digits.specs.Def.{Clear, digit, bits_of};
-ghost use Rattle.kinds.specs.Transpose.{place};
-ghost use Rattle.states.specs.Post.{state_bits};
-ghost use Rattle.running.specs.Prepared.{Ready2, machine2};
-ghost use Rattle.rows.specs.Post.{FirstRow, BackRow};
-
+use crate::Rows;
 use document::ROW_WORDS;
-use running::Prepared;
+use running::Gfsr;
 
-// The row with the n bits of y added at position pos, if they are chosen.
-pub fn placed_if(
-    chosen: bool,
-    row: [u64; ROW_WORDS],
-    pos: usize,
-    n: usize,
-    y: u64,
-) -> [u64; ROW_WORDS]
-    requires { (pos + n < state_bits) × (n ≤ 32) × (y < 2 ^ n) }
-    ensures { (i : ℕ) → bits_of result i ≡ bits_of row i ⊕ chosen && place pos n (digit y) i }
-{
-    if chosen {
-        states::placed(row, pos, n, y)
-    } else {
-        row
+#[tactic(auto, unfolding(kinds::specs::Generator::gfsr))]
+impl Rows for Gfsr {
+    // Bit j of the state.
+    fn first_row(self, j: usize) -> [u64; ROW_WORDS] {
+        states::flipped([0; ROW_WORDS], j)
     }
-}
 
-// The row of bit j of an output: bit j of the state.
-pub fn first_row(p: Prepared, j: usize) -> [u64; ROW_WORDS]
-    requires { Ready2 p × (j < p.bits) }
-    ensures { FirstRow (machine2 p) j result }
-{
-    let none = [0u64; ROW_WORDS];
-    states::flipped(none, j)
-}
-
-// The row before a move.
-pub fn backed(p: Prepared, row: [u64; ROW_WORDS]) -> [u64; ROW_WORDS]
-    requires { Ready2 p × Clear p.k (bits_of row) }
-    ensures { BackRow (machine2 p) row result }
-{
-    let mask = p.mask;
-    let r = p.r;
-    let w = p.w;
-    let y = states::word_at(row, 0, w);
-    let mut d = states::lowered(row, w);
-    for i in 0..r {
-        let t = placed_if(states::bit_at(mask, i), d, i * w, w, y);
-        d = t;
+    fn backed(self, row: [u64; ROW_WORDS]) -> [u64; ROW_WORDS] {
+        let y = states::word_at(&row, 0, self.w);
+        let mut d = states::lowered(row, self.w);
+        // By number, as in `next` of running: no list is gone over.
+        for i in 0..self.r {
+            if states::bit_at(&self.mask, i) {
+                // In two steps: in one, the checker says that it does not cover the array both lent to the call and laid by it here.
+                let next = states::placed(d, i * self.w, self.w, y);
+                d = next;
+            }
+        }
+        d
     }
-    d
 }

@@ -1,11 +1,11 @@
 // Kind 1. A step transposed moves a row up by one and adds the taps if its bit k - 1 leaves; the tap k takes that bit away.
-ghost use Rattle.std.specs.Prelude.{◌≡◌, ◌<◌};
 ghost use Rattle.digits.specs.Def.{Clear, bits_of};
-ghost use Rattle.running.specs.Prepared.{Mask, Ready1, machine1};
-ghost use Rattle.rows.specs.Post.{FirstRow, BackRow, StepsBack};
+ghost use Rattle.running.specs.Ranges.{Mask};
+ghost use Rattle.rows.specs.Post.{StepsBack};
 
+use crate::Rows;
 use document::ROW_WORDS;
-use running::Prepared;
+use running::Tausworthe;
 
 // The row before one step.
 pub fn step_backed(k: usize, mask: [u64; ROW_WORDS], row: [u64; ROW_WORDS]) -> [u64; ROW_WORDS]
@@ -13,7 +13,7 @@ pub fn step_backed(k: usize, mask: [u64; ROW_WORDS], row: [u64; ROW_WORDS]) -> [
     ensures { StepsBack k mask 1 row result }
 {
     let r = states::shifted_up(row, 1, 0);
-    if states::bit_at(row, k - 1) {
+    if states::bit_at(&row, k - 1) {
         states::added(r, mask)
     } else {
         r
@@ -31,29 +31,23 @@ pub fn steps_backed(
     ensures { StepsBack k mask n row result }
 {
     let mut r = row;
-    for i in 0..n {
-        let t = step_backed(k, mask, r);
-        r = t;
+    for _ in 0..n {
+        // In two steps: in one, the checker says that it does not cover the array both lent to the call and laid by it here.
+        let before = step_backed(k, mask, r);
+        r = before;
     }
     r
 }
 
-// The row of bit j of an output: the first bit of the state j steps later.
-pub fn first_row(p: Prepared, j: usize) -> [u64; ROW_WORDS]
-    requires { Ready1 p × (j < p.bits) }
-    ensures { FirstRow (machine1 p) j result }
-{
-    let mask = p.mask;
-    let none = [0u64; ROW_WORDS];
-    let first = states::flipped(none, 0);
-    steps_backed(p.k, mask, j, first)
-}
+#[tactic(auto, unfolding(kinds::specs::Generator::tausworthe))]
+impl Rows for Tausworthe {
+    // The first bit of the state j steps later.
+    fn first_row(self, j: usize) -> [u64; ROW_WORDS] {
+        steps_backed(self.k, self.mask, j, states::flipped([0; ROW_WORDS], 0))
+    }
 
-// The row before a move, ν steps.
-pub fn backed(p: Prepared, row: [u64; ROW_WORDS]) -> [u64; ROW_WORDS]
-    requires { Ready1 p × Clear p.k (bits_of row) }
-    ensures { BackRow (machine1 p) row result }
-{
-    let mask = p.mask;
-    steps_backed(p.k, mask, p.nu, row)
+    // ν steps.
+    fn backed(self, row: [u64; ROW_WORDS]) -> [u64; ROW_WORDS] {
+        steps_backed(self.k, self.mask, self.nu, row)
+    }
 }

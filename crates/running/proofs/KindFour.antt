@@ -5,14 +5,14 @@ use Prim.Native.Nat.{ℕ, ◌+◌, ◌-◌, ◌*◌, ◌≤◌}
 use native.Mathlib.Omega.{arith}
 use lib.Bits.{bit_xor, xor_lt}
 use Rattle.theory.specs.Def.{◌⊕◌}
-use Rattle.digits.specs.Def.{Same, digit, bits_of, word_of, number_of}
+use Rattle.digits.specs.Def.{Same, digit, bits_of, number_of}
 use Rattle.digits.specs.Laws.{digit-xor}
 use Rattle.kinds.specs.Generator.{◌⊻◌, word, join, twist, add_left, add_right, next4, temper3, temper4, enter, mersenne}
 use Rattle.kinds.specs.Reads.{same_twist, same_join, same_add_left, same_add_right}
 use Rattle.states.specs.Post.{Holds, state_bits}
-use Rattle.running.specs.declared.Prepared.{Prepared}
-use Rattle.running.specs.Prepared.{Ready4, machine4}
-use Rattle.running.proofs.Numbers.{mirrored_number}
+use Rattle.running.specs.declared.ready.Twister.{Twister}
+use Rattle.running.specs.Prepared.{machine4}
+use Rattle.running.specs.Ready.{same_bits}
 use Rattle.running.proofs.KindTwo.{entered_is}
 
 pub next4_is : (ws : List ℕ) (r m w p a x y u z v : ℕ) → 1 ≤ w
@@ -40,13 +40,13 @@ tempered_is ws w U S b T c Z x x₁ y₁ y₂ z hx h₁ h₂ h₃ hz = record { 
     third : Same w (digit y₂) (add_left w T (digit c) (add_left w S (digit b) (add_right U (word w 0 (bits_of ws)))))
     third i k = h₃.bits i k ∙ same_add_left w (digit y₁) _ second T (digit c) (digit c) (λ _ _. refl) i k
 
-module _ (p : Prepared) (y : Ready4 p) (ws : List ℕ) where
+module _ (p : Twister) (ws : List ℕ) where
   pub moved4_is : (out : List ℕ) (x : ℕ) → Holds p.w (next4 p.r p.m p.w p.p (digit p.a) (bits_of ws)) x → Same state_bits (bits_of out) (enter p.w (digit x) (bits_of ws))
-      → Same p.k (bits_of out) ((machine4 p).move (bits_of ws))
+      → Same (machine4 p).size (bits_of out) ((machine4 p).move (bits_of ws))
   unfolding mersenne
-  moved4_is out x h e i l = entered_is state_bits ws out p.w x _ h e i (omega (arith, y.size, y.words.fit))
+  moved4_is out x h e i l = entered_is state_bits ws out p.w x _ h e i (omega (arith, p.words.fit))
 
   pub output4_is : (x r : ℕ) → Holds p.w (temper4 p.w p.u p.s (digit p.b) p.t (digit p.c) p.v (word p.w 0 (bits_of ws))) x
-      → Holds p.bits (word_of p.bits x) r → r ≡ number_of p.bits ((machine4 p).out (bits_of ws))
+      → r ≡ number_of p.bits (digit x) → r ≡ number_of (machine4 p).width ((machine4 p).out (bits_of ws))
   unfolding mersenne
-  output4_is x r h e = mirrored_number p.bits x r _ e (λ j l. h.bits j (omega (arith, y.words.bits)))
+  output4_is x r h e = e ∙ same_bits p.bits _ _ (λ j l. h.bits j (omega (arith, p.words.bits)))

@@ -14,15 +14,18 @@ use borrow.Author.Tests.{lt-ltb, le-ltb}
 use Rattle.theory.specs.Def.{◌⊕◌, xorsum, pair}
 use Rattle.theory.specs.Laws.{⊕_same}
 use Rattle.theory.specs.Sums.{pair_same, pair_cut}
-use Rattle.digits.specs.Def.{Word, Same, Clear, digit, bits_of, word_of, number_of}
+use Rattle.digits.specs.Def.{Word, Same, Clear, digit, bits_of, number_of}
+use Rattle.digits.specs.Laws.{number_below}
 use Rattle.kinds.specs.Generator.{next_bit, stepped, times}
 use Rattle.kinds.specs.Reads.{same_stepped}
 use Rattle.kinds.specs.Transpose.{down, taps}
 use Rattle.kinds.specs.Adjoint.{taps-sum}
 use Rattle.kinds.specs.Recurrence.{bits_start}
 use Rattle.states.specs.Post.{Flipped, Holds, state_bits}
-use Rattle.running.specs.Prepared.{Mask, Stepped, tapped}
-use Rattle.running.proofs.Numbers.{bit-number, number_lt, mirrored_number}
+use Rattle.running.specs.Ranges.{Mask}
+use Rattle.running.specs.Prepared.{Stepped, tapped}
+use Rattle.running.specs.Ready.{same_bits}
+use Rattle.running.proofs.Numbers.{bit-number}
 
 -- the taps of the coefficients of a mask are its bits
 pub tapped_below : (k : ℕ) (mask : Word) → Same k mask (taps k (tapped k mask))
@@ -110,11 +113,11 @@ put_more k mask s t u r j p x y = record {
 }
 
 pub put_small : (k : ℕ) (mask s t : List ℕ) (r j n : ℕ) → j ≤ n → Put k mask s t r j → r < 2 ^ n
-put_small k mask s t r j n h x = rw x.number (lt_of_lt_of_le (number_lt j (out_of k mask s)) (pow_mono h))
+put_small k mask s t r j n h x = rw x.number (lt_of_lt_of_le (number_below j (out_of k mask s)) (pow_mono h))
 
 -- ---- the first L bits of the state are the output where there are so many
 
-pub first_is : (k : ℕ) (a : Word) (n x r : ℕ) (ws : List ℕ) → n ≤ k → Holds n (λ j. bits_of ws (0 + j)) x → Holds n (word_of n x) r
+pub first_is : (k : ℕ) (a : Word) (n x r : ℕ) (ws : List ℕ) → n ≤ k → Holds n (λ j. bits_of ws (0 + j)) x → r ≡ number_of n (digit x)
     → r ≡ number_of n (λ j. times j (stepped k a) (bits_of ws) 0)
 first_is k a n x r ws l h e =
-    mirrored_number n x r _ e (λ j b. let z : 0 + j ≡ j = omega arith in h.bits j b ∙ ap (bits_of ws) z ∙ sym (bits_start k a (bits_of ws) j (omega arith)))
+    e ∙ same_bits n _ _ (λ j b. let z : 0 + j ≡ j = omega arith in h.bits j b ∙ ap (bits_of ws) z ∙ sym (bits_start k a (bits_of ws) j (omega arith)))

@@ -1,9 +1,8 @@
 -- A number and its digits, the most significant first.
 use mathlib.Core.Path.{◌≡◌, refl, sym, ap, ap₂, ◌∙◌}
-use mathlib.Core.Bool.{Bool, true, false, cond}
-use Prim.Native.Nat.{ℕ, zero, suc, ◌+◌, ◌-◌, ◌*◌, ◌/◌, ◌%◌, ◌^◌, ◌≤◌, ◌<◌}
-use native.Mathlib.Nat.{two-pow-succ, lt_of_lt_of_le}
-use lib.Pow.{pow_mono}
+use mathlib.Core.Bool.{cond}
+use Prim.Native.Nat.{ℕ, zero, suc, ◌+◌, ◌-◌, ◌*◌, ◌/◌, ◌%◌, ◌^◌, ◌<◌}
+use native.Mathlib.Nat.{two-pow-succ}
 use native.Mathlib.Omega.{arith}
 use Rattle.digits.specs.Def.{Word, Same, nonzero, digit, word_of, number_of}
 use Rattle.digits.specs.Laws.{digit-suc, digit_low}
@@ -13,15 +12,6 @@ pub bit-number : (y : ℕ) → y < 2 → y ≡ cond (nonzero y) 1 0
 bit-number zero h = refl
 bit-number (suc zero) h = refl
 bit-number (suc (suc y)) h = absurd (omega arith)
-
-bit_lt : (b : Bool) → cond b 1 0 < 2
-bit_lt true = omega arith
-bit_lt false = omega arith
-
-pub number_lt : (n : ℕ) (x : Word) → number_of n x < 2 ^ n
-unfolding number_of
-number_lt zero x = omega arith
-number_lt (suc n) x = omega (arith, number_lt n x, bit_lt (x n), two-pow-succ n)
 
 number_is : (n : ℕ) (x : Word) (r : ℕ) → r < 2 ^ n → ((j : ℕ) → j < n → digit r (n - suc j) ≡ x j) → r ≡ number_of n x
 unfolding number_of
@@ -41,6 +31,3 @@ unfolding word_of
 mirrored_number L x r y h e =
     number_is L y r h.small
     (λ j i. let g : L - suc (L - suc j) ≡ j = omega arith in h.bits (L - suc j) (omega arith) ∙ ap (digit x) g ∙ e j i)
-
-pub within : (w x n : ℕ) → x < 2 ^ w → w ≤ n → x < 2 ^ n
-within w x n h l = lt_of_lt_of_le h (pow_mono l)

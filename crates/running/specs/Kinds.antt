@@ -1,17 +1,21 @@
--- Which of the machines a kind picks.
-use Rattle.std.specs.Prelude.{◌≡◌}
-use Rattle.std.proofs.Common.{eq-eqb, ne_eqb}
-use Rattle.running.specs.declared.Prepared.{Prepared}
-use Rattle.running.specs.Prepared.{machine1, machine2, machine4, kind_of}
+-- Which of the machines a prepared generator is.
+use Rattle.std.specs.Prelude.{◌≡◌, refl}
+use Rattle.kinds.specs.Generator.{Machine}
+use Rattle.running.specs.declared.ready.Tausworthe.{Tausworthe}
+use Rattle.running.specs.declared.ready.Gfsr.{Gfsr}
+use Rattle.running.specs.declared.ready.Twister.{Twister}
+use Rattle.running.specs.declared.ready.Prepared.{Prepared}
+use Rattle.running.specs.declared.ready.Prepared.TheVariants.{Tausworthe as OfTausworthe, Gfsr as OfGfsr, Twister as OfTwister}
+use Rattle.running.specs.Prepared.{machine1, machine2, machine4, machine_of}
 
-pub kind_one : (p : Prepared) → p.kind ≡ 1 → kind_of p ≡ machine1 p
-unfolding kind_of
-kind_one p e = rw (eq-eqb p.kind 1 e)
+abbrev pub kind_of : Prepared → Machine
+kind_of = machine_of
 
-pub kind_two : (p : Prepared) → (p.kind ≡ 1 → ⊥) → p.kind ≡ 2 → kind_of p ≡ machine2 p
-unfolding kind_of
-kind_two p n e = rw (ne_eqb p.kind 1 n, eq-eqb p.kind 2 e)
+pub kind_one : (p : Tausworthe) → kind_of (OfTausworthe p) ≡ machine1 p
+kind_one p = refl
 
-pub kind_other : (p : Prepared) → (p.kind ≡ 1 → ⊥) → (p.kind ≡ 2 → ⊥) → kind_of p ≡ machine4 p
-unfolding kind_of
-kind_other p n o = rw (ne_eqb p.kind 1 n, ne_eqb p.kind 2 o)
+pub kind_two : (p : Gfsr) → kind_of (OfGfsr p) ≡ machine2 p
+kind_two p = refl
+
+pub kind_other : (p : Twister) → kind_of (OfTwister p) ≡ machine4 p
+kind_other p = refl

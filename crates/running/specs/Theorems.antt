@@ -1,39 +1,34 @@
 -- What callers conclude from the contracts of `prepare`, `moved` and `output`.
-use Rattle.std.specs.Prelude.{◌≡◌, refl, cond, List, ℕ, zero, suc, ◌+◌, ◌*◌, ◌≤◌}
-use Rattle.std.proofs.Common.{ap, ap₂, ◌∙◌, arith}
+use Rattle.std.specs.Prelude.{◌≡◌, refl, List, ℕ, ◌+◌, ◌≤◌}
+use Rattle.std.proofs.Common.{ap, ◌∙◌}
 use Rattle.std.proofs.Math.Numerals.{add-one}
 use Rattle.digits.specs.Def.{Word, Same, bits_of, number_of}
 use Rattle.kinds.specs.Generator.{Machine, times, output_bit}
 use Rattle.kinds.specs.Alike.{Alike, alike_output}
 use Rattle.kinds.specs.Reads.{LocalMachine}
 use Rattle.document.specs.declared.Fields.{Fields}
-use Rattle.document.specs.Limits.{most_bits}
+use Rattle.document.specs.Limits.{most_bits, most_output}
 use Rattle.document.specs.Generator.{machine, size}
 use Rattle.document.specs.Ranges.{Accepted}
 use Rattle.document.specs.Outputs.{output}
-use Rattle.running.specs.declared.Prepared.{Prepared}
+use Rattle.running.specs.declared.ready.Prepared.{Prepared}
 use Rattle.running.specs.Prepared.{Ready, PreparedFor, machine_of}
 use Rattle.running.specs.Ready as R
 
-same_bits : (m : ℕ) (x y : Word) → Same m x y → number_of m x ≡ number_of m y
-unfolding number_of
-same_bits zero x y h = refl
-same_bits (suc m) x y h = ap₂ (λ a b. 2 * a + cond b 1 0) (same_bits m x y (λ j l. h j (omega arith))) (h m (omega arith))
-
 -- ---- a prepared generator
 
--- it keeps the ranges that `moved` and `output` require
-pub prepared_ready : (g : Fields) (p : Prepared) → Accepted g → PreparedFor g p → Ready p
-prepared_ready = R.prepared_ready
+-- it keeps its ranges
+pub prepared_ready : (p : Prepared) → Ready p
+prepared_ready = R.ready
 
 -- it is the description's machine: k and L, and move and output on the bits that count
 pub prepared_alike : (g : Fields) (p : Prepared) → Accepted g → PreparedFor g p → Alike (machine_of p) (machine g)
 prepared_alike = R.prepared_alike
 
-pub prepared_size : (g : Fields) (p : Prepared) → Accepted g → PreparedFor g p → p.k ≡ size g
+pub prepared_size : (g : Fields) (p : Prepared) → Accepted g → PreparedFor g p → (machine_of p).size ≡ size g
 prepared_size g p x y = (R.prepared_alike g p x y).size
 
-pub prepared_width : (g : Fields) (p : Prepared) → Accepted g → PreparedFor g p → p.bits ≡ (machine g).width
+pub prepared_width : (g : Fields) (p : Prepared) → Accepted g → PreparedFor g p → (machine_of p).width ≡ (machine g).width
 prepared_width g p x y = (R.prepared_alike g p x y).width
 
 -- a run may be told of in terms of the prepared generator alone: its outputs are the document's
@@ -42,15 +37,19 @@ unfolding output
 prepared_output g p x y n s =
     let a = R.prepared_alike g p x y in
     ap (λ k. number_of k (λ j. output_bit (machine_of p) n j s)) a.width
-    ∙ same_bits (machine g).width _ _ (λ j h. alike_output (machine_of p) (machine g) a n j h s s (λ _ _. refl))
+    ∙ R.same_bits (machine g).width _ _ (λ j h. alike_output (machine_of p) (machine g) a n j h s s (λ _ _. refl))
 
 -- bits of the state from k on play no part
-pub ready_local : (p : Prepared) → Ready p → LocalMachine (machine_of p)
+pub ready_local : (p : Prepared) → LocalMachine (machine_of p)
 ready_local = R.ready_local
 
 -- a state of eight words holds its k bits
-pub ready_most : (p : Prepared) → Ready p → p.k ≤ most_bits
+pub ready_most : (p : Prepared) → (machine_of p).size ≤ most_bits
 ready_most = R.ready_most
+
+-- a word of 32 holds an output's bits
+pub ready_width : (p : Prepared) → (machine_of p).width ≤ most_output
+ready_width = R.ready_width
 
 -- ---- a run of a machine: t is the state n moves after s
 
@@ -71,4 +70,4 @@ module _ (M : Machine) (l : LocalMachine M) (n : ℕ) (s t : List ℕ) (a : Afte
   -- `output` then gives output n
   pub after_output : (r : ℕ) → r ≡ number_of M.width (M.out (bits_of t)) → r ≡ output M n (bits_of s)
   unfolding output output_bit
-  after_output r e = e ∙ same_bits M.width _ _ (l.out _ _ a.bits)
+  after_output r e = e ∙ R.same_bits M.width _ _ (l.out _ _ a.bits)

@@ -1,9 +1,10 @@
 // Kind 1. The state is x_n, .., x_(n+k-1), and the mask has the taps: the bits that x_(n+k) sums, and the bit k.
 ghost use Rattle.std.specs.Prelude.{◌≡◌, ◌≤◌};
-ghost use Rattle.digits.specs.Def.{Same, bits_of, number_of};
-ghost use Rattle.running.specs.Prepared.{Ready1, Mask, Stepped, machine1};
+ghost use Rattle.digits.specs.Def.{bits_of, number_of};
+ghost use Rattle.running.specs.Ranges.{Mask};
+ghost use Rattle.running.specs.Prepared.{Stepped, machine1};
 
-use crate::Prepared;
+use crate::{Runs, Tausworthe, number};
 use document::ROW_WORDS;
 
 // One step. The parity is the new bit plus the bit that moves down to k - 1, so that flipping leaves the new bit there.
@@ -19,61 +20,58 @@ pub fn stepped(k: usize, mask: [u64; ROW_WORDS], s: [u64; ROW_WORDS]) -> [u64; R
     }
 }
 
-// The next state: ν steps.
-pub fn moved(p: Prepared, s: [u64; ROW_WORDS]) -> [u64; ROW_WORDS]
-    requires { Ready1 p }
-    ensures { Same p.k (bits_of result) ((machine1 p).move (bits_of s)) }
-{
-    let k = p.k;
-    let mask = p.mask;
-    let nu = p.nu;
-    let mut r = s;
-    for i in 0..nu {
-        let t = stepped(k, mask, r);
-        r = t;
+impl Tausworthe {
+    // The output where the state has its bits: the first L of them.
+    fn first_bits(self, s: [u64; ROW_WORDS]) -> u32
+        requires { (1 ≤ self.bits) × (self.bits ≤ self.k) }
+        ensures { result ≡ number_of self.bits ((machine1 self).out (bits_of s)) }
+    {
+        number(states::word_at(&s, 0, self.bits), self.bits)
     }
-    r
+
+    // The output where the recurrence goes on: the first bit of each of L states in a row. `as`: it has no more than 32 bits.
+    fn stepped_bits(self, s: [u64; ROW_WORDS]) -> u32
+        ensures { result ≡ number_of self.bits ((machine1 self).out (bits_of s)) }
+    {
+        let mut r = 0;
+        let mut t = s;
+        for _ in 0..self.bits {
+            r = r * 2 + t[0] % 2;
+            t = stepped(self.k, self.mask, t);
+        }
+        r as u32
+    }
 }
 
-// The output where the state has its bits: the first L of them.
-fn first_bits(p: Prepared, s: [u64; ROW_WORDS]) -> u32
-    requires { Ready1 p × (1 ≤ p.bits) × (p.bits ≤ p.k) }
-    ensures { result ≡ number_of p.bits ((machine1 p).out (bits_of s)) }
-{
-    let bits = p.bits;
-    let x = states::word_at(s, 0, bits);
-    states::words::mirrored(x, bits) as u32
-}
+#[tactic(auto, unfolding(kinds::specs::Generator::tausworthe))]
+impl Runs for Tausworthe {
+    ghost machine = { machine1 };
 
-// The output where the recurrence goes on: the first bit of each of L states in a row.
-fn stepped_bits(p: Prepared, s: [u64; ROW_WORDS]) -> u32
-    requires { Ready1 p }
-    ensures { result ≡ number_of p.bits ((machine1 p).out (bits_of s)) }
-{
-    let k = p.k;
-    let mask = p.mask;
-    let bits = p.bits;
-    let mut r = 0;
-    let mut t = s;
-    for j in 0..bits {
-        r = r * 2 + t[0] % 2;
-        t = stepped(k, mask, t);
+    fn size(self) -> usize {
+        self.k
     }
-    r as u32
-}
 
-// The output: L bits from x_n on.
-pub fn output(p: Prepared, s: [u64; ROW_WORDS]) -> u32
-    requires { Ready1 p }
-    ensures { result ≡ number_of p.bits ((machine1 p).out (bits_of s)) }
-{
-    let k = p.k;
-    let bits = p.bits;
-    if k < bits {
-        return stepped_bits(p, s);
+    fn bits(self) -> usize {
+        self.bits
     }
-    if bits < 1 {
-        return stepped_bits(p, s);
+
+    // A move is ν steps.
+    fn moved(self, s: [u64; ROW_WORDS]) -> [u64; ROW_WORDS] {
+        let mut t = s;
+        for _ in 0..self.nu {
+            // In two steps: in one, the checker says that it does not cover the array both lent to the call and laid by it here.
+            let next = stepped(self.k, self.mask, t);
+            t = next;
+        }
+        t
     }
-    first_bits(p, s)
+
+    // The output: L bits from x_n on.
+    fn output(self, s: [u64; ROW_WORDS]) -> u32 {
+        if (1..=self.k).contains(&self.bits) {
+            self.first_bits(s)
+        } else {
+            self.stepped_bits(s)
+        }
+    }
 }

@@ -1,10 +1,10 @@
 -- What the leaves on states do to bits.
-use mathlib.Core.Path.{◌≡◌, sym, ap, ap₂, ◌∙◌, fun_ext}
+use mathlib.Core.Path.{◌≡◌, refl, sym, ap, ap₂, ◌∙◌, fun_ext}
 use mathlib.Core.Bool.{Bool, true, false, ◌&&◌, cond}
 use mathlib.Core.List.{List}
 use mathlib.Core.Logic.{by_cases, ◌⊎◌, inl, inr}
 use native.Mathlib.Decide.{dec_lt, ℕ_discrete}
-use Prim.Native.Nat.{ℕ, suc, ◌+◌, ◌-◌, ◌*◌, ◌/◌, ◌%◌, ◌^◌, ◌≤◌, ◌<◌}
+use Prim.Native.Nat.{ℕ, zero, suc, ◌+◌, ◌-◌, ◌*◌, ◌/◌, ◌%◌, ◌^◌, ◌≤◌, ◌<◌}
 use native.Mathlib.Nat.{mod-lt, lt_of_le_of_lt}
 use native.Mathlib.Omega.{arith}
 use lib.Bits.{bit_xor, bit_and, xor_lt, and_le_r}
@@ -13,7 +13,7 @@ use lib.Dec.{ltb, eqb, lit<}
 use lib.Count.{ones}
 use lib.ListN.{get_or, length, set, length-set, get_or-eq_default}
 use lib.Seq.{get_or-set_same, get_or-set_other}
-use borrow.Author.Tests.{lt-ltb, le-ltb}
+use borrow.Author.Tests.{lt-ltb, le-ltb, ne_eqb}
 use Rattle.theory.specs.Def.{◌⊕◌, xorsum}
 use Rattle.theory.specs.Laws.{⊕_false, ⊕_comm, xorsum-⊕, xorsum_cong, xorsum-none}
 use Rattle.theory.specs.Sums.{xorsum-append}
@@ -58,15 +58,20 @@ module _ (ws : List ℕ) (pos w : ℕ) where
         (λ i. ap₂ ◌⊕◌ (digit_past _ 64 (pos % 64 + j) b (omega arith)) (digit-shl _ (64 - pos % 64) j (omega arith) ∙ at_bit ws (pos / 64 + 1) (j - (64 - pos % 64)) (pos + j) (omega arith) (omega arith)));
   }
 
--- ---- shifted_up: r has its first i words, and carry is what goes on into the next
+-- ---- bits past the words
 
-pub record Rising (n : ℕ) (ws : List ℕ) (w new : ℕ) (r : List ℕ) (carry i : ℕ) : Type 0 where
-  pub long : length r ≡ n
-  pub small : carry < 2 ^ w
-  pub next : (j : ℕ) → j < w → digit carry j ≡ enter w (digit new) (bits_of ws) (64 * i + j)
-  pub done : (b : ℕ) → b < 64 * i → bits_of r b ≡ enter w (digit new) (bits_of ws) b
+pub bits_past : (n : ℕ) (ws : List ℕ) (i : ℕ) → length ws ≡ n → 64 * n ≤ i → bits_of ws i ≡ false
+unfolding bits_of
+bits_past n ws i l h = ap (λ x. digit x (i % 64)) (get_or-eq_default ws 0 (omega arith)) ∙ digit-zero (i % 64)
 
-module _ (n : ℕ) (ws : List ℕ) (w new : ℕ) where
+-- a state whose words are known has the bits of these words
+pub known_bits : (n : ℕ) (r : List ℕ) (h : ℕ → ℕ) (x : ℕ → Bool) → ((i : ℕ) → i < n → get_or r i 0 ≡ h i) → ((i b : ℕ) → i < n → b < 64 → digit (h i) b ≡ x (64 * i + b)) → (j : ℕ) → j < 64 * n → bits_of r j ≡ x j
+unfolding bits_of
+known_bits n r h x m d j l = let e : 64 * (j / 64) + j % 64 ≡ j = omega arith in ap (λ y. digit y (j % 64)) (m (j / 64) (omega arith)) ∙ d (j / 64) (j % 64) (omega arith) (omega arith) ∙ ap x e
+
+-- ---- shifted_up
+
+module _ (n : ℕ) (ws : List ℕ) (w new : ℕ) (p : 1 ≤ w) (l : w ≤ 32) (small : new < 2 ^ w) (f : (i : ℕ) → get_or ws i 0 < 2 ^ 64) where
   enter_below : (i : ℕ) → i < w → digit new i ≡ enter w (digit new) (bits_of ws) i
   unfolding enter
   enter_below i h = rw (lt-ltb i w h)
@@ -75,33 +80,34 @@ module _ (n : ℕ) (ws : List ℕ) (w new : ℕ) where
   unfolding enter
   enter_above q b i h l e = rw (le-ltb i w l) (at_bit ws q b (i - w) h e)
 
-  pub rising_start : (r : List ℕ) → length r ≡ n → new < 2 ^ w → Rising n ws w new r new 0
-  rising_start r e l = record {
-    long = e;
-    small = l;
-    next = λ j h. let e : 64 * 0 + j ≡ j = omega arith in rw e (enter_below j h);
-    done = λ b h. absurd (omega arith);
-  }
+  -- what enters the word i from below
+  abbrev pub entering : ℕ → ℕ
+  entering i = cond (eqb i 0) new (get_or ws (i - 1) 0 / 2 ^ (64 - w))
 
-  module _ (r : List ℕ) (carry i : ℕ) (p : 1 ≤ w) (l : w ≤ 32) (f : get_or ws i 0 < 2 ^ 64) (x : Rising n ws w new r carry i) where
-    word_bits : (b : ℕ) → b < 64 → digit (bit_xor (get_or ws i 0 * 2 ^ w % 2 ^ 64) carry) b ≡ enter w (digit new) (bits_of ws) (64 * i + b)
-    word_bits b h =
-        digit-xor _ carry b
-        ∙ by_cases (dec_lt b w)
-        (λ j. ap₂ ◌⊕◌ (digit-mod _ 64 b h ∙ digit-shl_below _ w b j) (x.next b j))
-        (λ j. ap₂ ◌⊕◌ (digit-mod _ 64 b h ∙ digit-shl _ w b (omega arith)) (digit_past carry w b x.small (omega arith)) ∙ ⊕_false _
-        ∙ enter_above i (b - w) (64 * i + b) (omega arith) (omega arith) (omega arith))
+  entering_next : (i : ℕ) → entering (suc i) ≡ get_or ws i 0 / 2 ^ (64 - w)
+  entering_next i = let e : suc i - 1 ≡ i = omega arith in rw (ne_eqb (suc i) 0 (λ z. omega arith), e) refl
 
-    pub rising_step : i < n → Rising n ws w new (set r i (bit_xor (get_or ws i 0 * 2 ^ w % 2 ^ 64) carry)) (get_or ws i 0 / 2 ^ (64 - w)) (i + 1)
-    unfolding bits_of
-    rising_step h = record {
-      long = simp length-set x.long;
-      small = shr_lt w (64 - w) (let e : w + (64 - w) ≡ 64 = omega arith in rw e f);
-      next = λ j k. digit-shr _ (64 - w) j ∙ enter_above i (64 - w + j) (64 * (i + 1) + j) (omega arith) (omega arith) (omega arith);
-      done = λ b k. by_cases (ℕ_discrete (b / 64) i)
-          (λ e. let g : 64 * i + b % 64 ≡ b = omega arith in rw (e, get_or-set_same r i _ 0 (omega (arith, x.long))) (word_bits (b % 64) (omega arith) ∙ ap (enter w (digit new) (bits_of ws)) g))
-          (λ o. rw (get_or-set_other r i (b / 64) _ 0 o) (x.done b (omega arith)));
-    }
+  entering_small : (i : ℕ) → entering i < 2 ^ w
+  entering_small zero = small
+  entering_small (suc i) = rw (entering_next i) (shr_lt w (64 - w) (let e : w + (64 - w) ≡ 64 = omega arith in rw e (f i)))
+
+  entering_bits : (i b : ℕ) → b < w → digit (entering i) b ≡ enter w (digit new) (bits_of ws) (64 * i + b)
+  entering_bits zero b h = let e : 64 * 0 + b ≡ b = omega arith in rw e (enter_below b h)
+  entering_bits (suc i) b h = ap (λ x. digit x b) (entering_next i) ∙ digit-shr _ (64 - w) b ∙ enter_above i (64 - w + b) (64 * suc i + b) (omega arith) (omega arith) (omega arith)
+
+  abbrev pub raised : ℕ → ℕ
+  raised i = bit_xor (get_or ws i 0 * 2 ^ w % 2 ^ 64) (entering i)
+
+  raised_bits : (i b : ℕ) → b < 64 → digit (raised i) b ≡ enter w (digit new) (bits_of ws) (64 * i + b)
+  raised_bits i b h =
+      digit-xor _ (entering i) b
+      ∙ by_cases (dec_lt b w)
+      (λ j. ap₂ ◌⊕◌ (digit-mod _ 64 b h ∙ digit-shl_below _ w b j) (entering_bits i b j))
+      (λ j. ap₂ ◌⊕◌ (digit-mod _ 64 b h ∙ digit-shl _ w b (omega arith)) (digit_past (entering i) w b (entering_small i) (omega arith)) ∙ ⊕_false _
+      ∙ enter_above i (b - w) (64 * i + b) (omega arith) (omega arith) (omega arith))
+
+  pub shifted_is : (r : List ℕ) → ((i : ℕ) → i < n → get_or r i 0 ≡ raised i) → (b : ℕ) → b < 64 * n → bits_of r b ≡ enter w (digit new) (bits_of ws) b
+  shifted_is r m = known_bits n r raised _ m (λ i b _. raised_bits i b)
 
 -- ---- parity
 
@@ -204,79 +210,34 @@ module _ (pos n y : ℕ) (l : y < 2 ^ n) where
 
 -- ---- lowered
 
-pub bits_past : (n : ℕ) (ws : List ℕ) (i : ℕ) → length ws ≡ n → 64 * n ≤ i → bits_of ws i ≡ false
-unfolding bits_of
-bits_past n ws i l h = ap (λ x. digit x (i % 64)) (get_or-eq_default ws 0 (omega arith)) ∙ digit-zero (i % 64)
-
--- r has its first i words, and its last
-pub record Lowering (n : ℕ) (ws : List ℕ) (w : ℕ) (r : List ℕ) (i : ℕ) : Type 0 where
-  pub long : length r ≡ n
-  pub done : (b : ℕ) → b < 64 * i → bits_of r b ≡ bits_of ws (b + w)
-  pub last : (b : ℕ) → 64 * (n - 1) ≤ b → b < 64 * n → bits_of r b ≡ bits_of ws (b + w)
-
-module _ (n : ℕ) (ws : List ℕ) (w : ℕ) (pw : 1 ≤ w) (lw : w ≤ 32) where
-  word-down : (q b : ℕ) → get_or ws q 0 < 2 ^ 64 → b < 64 → digit (bit_xor (get_or ws q 0 / 2 ^ w) (get_or ws (q + 1) 0 * 2 ^ (64 - w) % 2 ^ 64)) b ≡ bits_of ws (64 * q + b + w)
-  word-down q b f h =
+module _ (n : ℕ) (ws : List ℕ) (w : ℕ) (pw : 1 ≤ w) (lw : w ≤ 32) (long : length ws ≡ n) (f : (i : ℕ) → get_or ws i 0 < 2 ^ 64) where
+  word-down : (q b : ℕ) → b < 64 → digit (bit_xor (get_or ws q 0 / 2 ^ w) (get_or ws (q + 1) 0 * 2 ^ (64 - w) % 2 ^ 64)) b ≡ bits_of ws (64 * q + b + w)
+  word-down q b h =
       digit-xor _ _ b ∙ ap₂ ◌⊕◌ (digit-shr (get_or ws q 0) w b) (digit-mod _ 64 b h)
       ∙ by_cases (dec_lt (w + b) 64)
       (λ i. ap₂ ◌⊕◌ (at_bit ws q (w + b) (64 * q + b + w) i (omega arith)) (digit-shl_below _ (64 - w) b (omega arith)) ∙ ⊕_false _)
-      (λ i. ap₂ ◌⊕◌ (digit_past (get_or ws q 0) 64 (w + b) f (omega arith)) (digit-shl _ (64 - w) b (omega arith) ∙ at_bit ws (q + 1) (b - (64 - w)) (64 * q + b + w) (omega arith) (omega arith)))
+      (λ i. ap₂ ◌⊕◌ (digit_past (get_or ws q 0) 64 (w + b) (f q) (omega arith)) (digit-shl _ (64 - w) b (omega arith) ∙ at_bit ws (q + 1) (b - (64 - w)) (64 * q + b + w) (omega arith) (omega arith)))
 
-  last_down : (q b : ℕ) → get_or ws q 0 < 2 ^ 64 → length ws ≡ suc q → b < 64 → digit (get_or ws q 0 / 2 ^ w) b ≡ bits_of ws (64 * q + b + w)
-  last_down q b f l h =
-      digit-shr (get_or ws q 0) w b
-      ∙ by_cases (dec_lt (w + b) 64)
-      (λ i. at_bit ws q (w + b) (64 * q + b + w) i (omega arith))
-      (λ i. digit_past (get_or ws q 0) 64 (w + b) f (omega arith) ∙ sym (bits_past (suc q) ws (64 * q + b + w) l (omega arith)))
+  -- past the last word, nothing enters
+  abbrev pub sinking : ℕ → ℕ
+  sinking i = cond (ltb (i + 1) n) (get_or ws (i + 1) 0 * 2 ^ (64 - w) % 2 ^ 64) 0
 
-  pub lowering_start : (r : List ℕ) (q : ℕ) → suc q ≡ n → get_or ws q 0 < 2 ^ 64 → length ws ≡ n → length r ≡ n → Lowering n ws w (set r q (get_or ws q 0 / 2 ^ w)) 0
-  unfolding bits_of
-  lowering_start r q e f l k = record {
-    long = simp length-set k;
-    done = λ b h. absurd (omega arith);
-    last = λ b h g.
-        let o : b / 64 ≡ q = omega arith in
-        let a : 64 * q + b % 64 ≡ b = omega arith in
-        rw (o, get_or-set_same r q _ 0 (omega arith)) (last_down q (b % 64) f (omega arith) (omega arith) ∙ ap (λ y. bits_of ws (y + w)) a);
-  }
+  sinking_is : (i : ℕ) → sinking i ≡ get_or ws (i + 1) 0 * 2 ^ (64 - w) % 2 ^ 64
+  sinking_is i = by_cases (dec_lt (i + 1) n)
+      (λ h. rw (lt-ltb (i + 1) n h))
+      (λ h. let g : n ≤ i + 1 = omega arith in let d : get_or ws (i + 1) 0 ≡ 0 = get_or-eq_default ws 0 (omega arith) in let z : 0 * 2 ^ (64 - w) ≡ 0 = omega arith in rw (le-ltb (i + 1) n g, d, z) refl)
 
-  pub lowering_step : (r : List ℕ) (i : ℕ) → get_or ws i 0 < 2 ^ 64 → suc i < n → Lowering n ws w r i
-      → Lowering n ws w (set r i (bit_xor (get_or ws i 0 / 2 ^ w) (get_or ws (i + 1) 0 * 2 ^ (64 - w) % 2 ^ 64))) (i + 1)
-  unfolding bits_of
-  lowering_step r i f h x = record {
-    long = simp length-set x.long;
-    done = λ b k. by_cases (ℕ_discrete (b / 64) i)
-        (λ e. let g : 64 * i + b % 64 ≡ b = omega arith in
-        rw (e, get_or-set_same r i _ 0 (omega (arith, x.long))) (word-down i (b % 64) f (omega arith) ∙ ap (λ y. bits_of ws (y + w)) g))
-        (λ o. rw (get_or-set_other r i (b / 64) _ 0 o) (x.done b (omega arith)));
-    last = λ b k g. rw (get_or-set_other r i (b / 64) _ 0 (omega arith)) (x.last b k g);
-  }
-
-  pub lowering_end : (r : List ℕ) (i : ℕ) → suc i ≡ n → length ws ≡ n → Lowering n ws w r i → (b : ℕ) → bits_of r b ≡ down w (bits_of ws) b
+  pub lowered_is : (r : List ℕ) → length r ≡ n → ((i : ℕ) → i < n → get_or r i 0 ≡ bit_xor (get_or ws i 0 / 2 ^ w) (sinking i)) → (b : ℕ) → bits_of r b ≡ down w (bits_of ws) b
   unfolding down
-  lowering_end r i e l x b =
-      by_cases (dec_lt b (64 * i)) (λ h. x.done b h) (λ h. by_cases (dec_lt b (64 * n)) (λ g. x.last b (omega arith) g)
-      (λ g. bits_past n r b x.long (omega arith) ∙ sym (bits_past n ws (b + w) l (omega arith))))
+  lowered_is r k m b =
+      by_cases (dec_lt b (64 * n))
+      (known_bits n r _ (λ j. bits_of ws (j + w)) m (λ i b _ h. ap (λ x. digit (bit_xor (get_or ws i 0 / 2 ^ w) x) b) (sinking_is i) ∙ word-down i b h) b)
+      (λ g. bits_past n r b k (omega arith) ∙ sym (bits_past n ws (b + w) long (omega arith)))
 
--- ---- added: r has its first i words
+-- ---- added
 
-pub record Adding (n : ℕ) (a b r : List ℕ) (i : ℕ) : Type 0 where
-  pub long : length r ≡ n
-  pub done : (j : ℕ) → j < 64 * i → bits_of r j ≡ bits_of a j ⊕ bits_of b j
-
-pub adding_start : (n : ℕ) (a b r : List ℕ) → length r ≡ n → Adding n a b r 0
-adding_start n a b r l = record { long = l; done = λ j h. absurd (omega arith) }
-
-pub adding_step : (n : ℕ) (a b r : List ℕ) (i : ℕ) → i < n → Adding n a b r i → Adding n a b (set r i (bit_xor (get_or a i 0) (get_or b i 0))) (i + 1)
-unfolding bits_of
-adding_step n a b r i h x = record {
-  long = simp length-set x.long;
-  done = λ j k. by_cases (ℕ_discrete (j / 64) i)
-      (λ e. rw (e, get_or-set_same r i _ 0 (omega (arith, x.long))) (digit-xor (get_or a i 0) (get_or b i 0) (j % 64)))
-      (λ o. rw (get_or-set_other r i (j / 64) _ 0 o) (x.done j (omega arith)));
-}
-
-pub adding_end : (n : ℕ) (a b r : List ℕ) → length a ≡ n → length b ≡ n → Adding n a b r n → (j : ℕ) → bits_of r j ≡ bits_of a j ⊕ bits_of b j
-adding_end n a b r la lb x j =
-    by_cases (dec_lt j (64 * n)) (λ h. x.done j h)
-    (λ h. bits_past n r j x.long (omega arith) ∙ sym (ap₂ ◌⊕◌ (bits_past n a j la (omega arith)) (bits_past n b j lb (omega arith))))
+pub added_is : (n : ℕ) (a b r : List ℕ) → length a ≡ n → length b ≡ n → length r ≡ n → ((i : ℕ) → i < n → get_or r i 0 ≡ bit_xor (get_or a i 0) (get_or b i 0)) → (j : ℕ) → bits_of r j ≡ bits_of a j ⊕ bits_of b j
+added_is n a b r la lb lr m j =
+    by_cases (dec_lt j (64 * n))
+    (known_bits n r _ (λ j. bits_of a j ⊕ bits_of b j) m (λ i c _ h. digit-xor (get_or a i 0) (get_or b i 0) c ∙ ap₂ ◌⊕◌ (at_word a i c h) (at_word b i c h)) j)
+    (λ h. bits_past n r j lr (omega arith) ∙ sym (ap₂ ◌⊕◌ (bits_past n a j la (omega arith)) (bits_past n b j lb (omega arith))))

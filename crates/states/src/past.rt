@@ -9,10 +9,5 @@ use document::ROW_WORDS;
 pub fn late_bit(k: usize, state: [u64; ROW_WORDS]) -> bool
     ensures { result ≡ late_bit k state }
 {
-    for i in k..64 * ROW_WORDS {
-        if bit_at(state, i) {
-            return true;
-        }
-    }
-    false
+    (k..64 * ROW_WORDS).any(|i| bit_at(&state, i))
 }

@@ -1,4 +1,5 @@
-// Words of w bits, held mirrored: bit j, the first being bit 0, is worth 2^j.
+// Words of w bits, held mirrored: bit j, the first being bit 0, is worth 2^j. w and the word go beside one another, not as one struct: a
+// tempering is four steps at one w, and a struct would carry w through each and say twice that it is the same.
 ghost use Rattle.std.specs.Prelude.{◌≡◌, true, ℕ, ◌+◌, ◌-◌, ◌*◌, ◌%◌, ◌<◌, ◌≤◌, ◌^◌};
 ghost use Rattle.digits.specs.Def.{digit, word_of};
 ghost use Rattle.kinds.specs.Generator.{twist, add_left, add_right, join};
@@ -28,7 +29,7 @@ pub fn untwisted(w: usize, a: u64, y: u64) -> u64
     ensures { Holds w (untwist w (digit a) (digit y)) result }
 {
     let h = y >> 1;
-    if u64::count_ones(a & y) % 2 == 1 {
+    if (a & y).count_ones() % 2 == 1 {
         h ^ (1 << (w - 1))
     } else {
         h
@@ -84,6 +85,7 @@ fn exchanged(x: u64, m: u64, d: usize) -> u64
 }
 
 // The n low bits of x the other way round.
+#[tactic(auto, unfolding(digits::specs::Def::digit))]
 pub fn mirrored(x: u64, n: usize) -> u64
     requires { (x < 2 ^ 32) × (n ≤ 32) }
     ensures { Holds n (word_of n x) result }

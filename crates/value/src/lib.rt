@@ -1,24 +1,38 @@
 // Value: the f64 Y / 2^L, by one exact conversion and one exact division.
 #![tactic(auto)]
 
-ghost use Rattle.std.specs.Prelude.{◌≡◌, false, ℕ, ◌+◌, ◌^◌, ◌≤◌, ◌<◌};
+ghost use Rattle.std.specs.Prelude.{◌≡◌, ◌^◌, ◌≤◌, ◌<◌, IfOk};
 ghost use Rattle.std.specs.Float.{binary64};
 ghost use Rattle.std.specs.Float.Ieee.{of_bits};
-ghost use Rattle.std.specs.Float.Ieee.Exact.{HasValue};
 ghost use Rattle.document.specs.Limits.{most_output};
 ghost use Rattle.document.specs.Refusals.{value_refusal};
 ghost use Rattle.document.specs.Value.{value_bits};
-ghost use Rattle.value.specs.Promises.{ValuedAs};
+ghost use Rattle.document.specs.Answer.{refusal_of};
+ghost use Rattle.value.specs.Promises.{ValuedAs, valued_of};
 
-use document::MOST_OUTPUT;
+use document::{MOST_OUTPUT, Refusal};
 use fields::outside;
 
-// The answer: 0 and the value, or a refusal and zero.
+// The answer: 0 and the value, or a refusal and zero. C gets this struct, so the number stays beside the value.
 #[repr(C)]
 #[derive(Clone, Copy)]
 pub struct Valued {
     pub refusal: u32,
     pub value: f64,
+}
+
+impl From<Result<f64, Refusal>> for Valued {
+    ghost from_gives = { λ answer valued. valued ≡ valued_of answer };
+
+    fn from(answer: Result<f64, Refusal>) -> Valued {
+        match answer {
+            Ok(value) => Valued { refusal: 0, value },
+            Err(refusal) => Valued {
+                refusal: u32::from(refusal),
+                value: 0.0,
+            },
+        }
+    }
 }
 
 fn power(l: u32) -> u64
@@ -28,7 +42,7 @@ fn power(l: u32) -> u64
     1u64 << l
 }
 
-// y / 2^l: both conversions and the division are exact.
+// y / 2^l: both conversions and the division are exact. `as`: an `f64` has no `From<u64>`.
 fn fraction(y: u64, l: u32) -> f64
     requires { (y < 2 ^ most_output) × (l ≤ most_output) }
     ensures { result ≡ of_bits binary64 (value_bits y l) }
@@ -37,32 +51,33 @@ fn fraction(y: u64, l: u32) -> f64
     (y as f64) / (p as f64)
 }
 
-// 4 for L, then 6 for Y.
-fn value_refusal(y: u64, l: u32) -> u32
-    ensures { result ≡ value_refusal y l }
+// What refuses L, and then Y.
+#[tactic(auto, unfolding(document::specs::Refusals::value_refusal, document::specs::Refusals::outside, document::specs::Refusals::lowest))]
+fn value_refusal(y: u64, l: u32) -> Result<(), Refusal>
+    ensures { refusal_of result ≡ value_refusal y l }
 {
     if outside(1, MOST_OUTPUT, l as usize) {
-        return 4;
+        return Err(Refusal::Bits);
     }
     if power(l) <= y {
-        return 6;
+        return Err(Refusal::Value);
     }
-    0
+    Ok(())
 }
 
-// The value of an output of L bits.
+// The value of an output of L bits, or why there is none.
+#[tactic(auto, using(crate::specs::Theorems::value_accepted))]
+fn checked(y: u64, l: u32) -> Result<f64, Refusal>
+    ensures number { refusal_of result ≡ value_refusal y l }
+    ensures accepted { IfOk result (λ x. x ≡ of_bits binary64 (value_bits y l)) }
+{
+    value_refusal(y, l)?;
+    Ok(fraction(y, l))
+}
+
+// The same, as the reply that C gets.
 pub fn value(y: u64, l: u32) -> Valued
     ensures { ValuedAs y l result }
 {
-    let refusal = value_refusal(y, l);
-    if refusal != 0 {
-        return Valued {
-            refusal,
-            value: 0.0,
-        };
-    }
-    Valued {
-        refusal,
-        value: fraction(y, l),
-    }
+    Valued::from(checked(y, l))
 }

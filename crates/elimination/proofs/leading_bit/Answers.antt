@@ -1,36 +1,22 @@
-use mathlib.Core.Path.{◌≡◌}
-use Prim.Native.Nat.{ℕ, ◌+◌}
-use native.Mathlib.Omega.{arith}
-use lib.ListN.{get_or}
-use borrow.Author.Rules.{rules}
+-- `elimination::leading_bit` meets its contract.
+use Rattle.std.proofs.Common.{ℕ, ◌+◌, get_or, arith}
 use lib.Count.{trailing_le}
 use Rattle.digits.specs.Lowest.{lowest-digit}
-use Rattle.elimination.proofs.RowBits.{zero_more, leading_found, leading_none}
+use Rattle.elimination.proofs.RowBits.{zero_words, leading_found, leading_none}
 use Rattle.elimination.proofs.leading_bit.Goals as goal
 
-pub loop-k-init : goal.loop-k-init
-loop-k-init c = (search rules, c.requires.3)
+pub overflow_mul-result : goal.overflow_mul-result
+overflow_mul-result c = omega (arith, c.in-Some.ensures)
 
-pub overflow_cast-result : goal.overflow_cast-result
-overflow_cast-result c =
-    let word : ℕ = get_or c.args.buf.now (c.args.at + c.loop-k.k) 0 in
-    omega (arith, trailing_le 64 word)
+pub overflow_add-result-in-Some : goal.overflow_add-result-in-Some
+overflow_add-result-in-Some c =
+    let word : ℕ = get_or c.args.buf.now (c.args.at + c.in-Some.k) 0 in
+    omega (arith, c.in-Some.ensures, trailing_le 64 word)
 
-pub overflow_add-result : goal.overflow_add-result
-overflow_add-result c =
-    let word : ℕ = get_or c.args.buf.now (c.args.at + c.loop-k.k) 0 in
-    omega (arith, trailing_le 64 word)
+pub returns-in-Some : goal.returns-in-Some
+returns-in-Some c =
+    let f = c.in-Some.ensures in
+    leading_found _ _ _ (zero_words _ _ _ _ c.requires.3 f.3) _ _ f.1 (lowest-digit 64 _ (c.type_inv.buf (c.args.at + c.in-Some.k)).fits f.2)
 
-pub returns-then-w-ne0 : goal.returns-then-w-ne0
-returns-then-w-ne0 c =
-    let word : ℕ = get_or c.args.buf.now (c.args.at + c.loop-k.k) 0 in
-    leading_found _ _ _ c.loop-k.invariant.1 _ _ c.loop-k-test.true
-    (lowest-digit 64 word (c.shared_slice_known-1.given _).fits c.if-w-ne0.true)
-
-pub loop-k-preserved : goal.loop-k-preserved
-loop-k-preserved c = (search rules, zero_more _ _ _ c.loop-k.invariant.1 c.if-w-ne0.false)
-
-pub returns : goal.returns
-returns c =
-    let eq : c.loop-k.k ≡ c.args.lead = omega arith in
-    leading_none _ _ _ (rw eq at c.loop-k.invariant.1)
+pub returns-in-None : goal.returns-in-None
+returns-in-None c = leading_none _ _ _ (zero_words _ _ _ _ c.requires.3 c.in-None.ensures)

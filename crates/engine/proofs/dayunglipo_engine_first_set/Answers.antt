@@ -1,11 +1,11 @@
 -- `engine::dayunglipo_engine_first_set` meets its contract.
-use lib.ListN.{length}
-use Rattle.engine.proofs.Laws.{told_yes, set_answered}
-use Rattle.engine.specs.Answers.{Sized, Roomy}
+use Rattle.std.proofs.Common.{rules}
+use Rattle.engine.proofs.Laws.{set_answered}
+use Rattle.engine.specs.Answers.{Roomy}
 use Rattle.engine.proofs.dayunglipo_engine_first_set.Goals as goal
 
 pub returns : goal.returns
 returns c =
-    let good : Sized (length c.args.buf.now) (length c.args.slots.now) c.args.rows c.args.stride c.args.width c.args.lead = told_yes c.sized.result c.if-not-sized.false c.sized.ensures in
-    let room : Roomy c.args.rows c.args.width c.args.lead = told_yes c.roomy.result c.if-not-roomy.false c.roomy.ensures in
-    rw c.number.ensures (set_answered _ _ _ _ _ _ _ c.set_tags.ensures good room _ _ c.eliminate-f.result c.eliminate-f.ensures)
+    let (good, s, w, l) = c.in-Some.ensures in
+    let room : Roomy c.args.rows c.in-Some.layout.width c.in-Some.layout.lead = search rules in
+    rw c.unwrap_or.ensures (set_answered _ _ _ _ _ _ _ (rw (s, w, l) at c.set_tags.ensures) good (rw (w, l) at room) _ _ c.eliminate.result (rw (s, w, l) at c.eliminate.ensures))

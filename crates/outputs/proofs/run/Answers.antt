@@ -1,16 +1,9 @@
-use Rattle.running.specs.Prepared.{machine_of}
-use Rattle.running.specs.Theorems.{ready_local}
+use Rattle.std.proofs.Common.{arith}
 use Rattle.outputs.proofs.Laws.{running_start, running_turn}
-use mathlib.Core.Path.{◌≡◌}
-use native.Mathlib.Omega.{arith}
-use borrow.Author.Rules.{rules}
 use Rattle.outputs.proofs.run.Goals as goal
 
-pub loop-n-init : goal.loop-n-init
-loop-n-init c = (omega arith, running_start _ _ _)
+pub loop-place-init : goal.loop-place-init
+loop-place-init c = running_start _ _ _
 
-pub loop-n-preserved : goal.loop-n-preserved
-loop-n-preserved c = (omega arith, running_turn (machine_of c.args.p) (ready_local c.args.p c.requires.0) _ _ c.loop-n.n _ _ _ _ c.loop-n.invariant.1 (search rules) c.output.ensures c.moved-next.ensures)
-
-pub returns : goal.returns
-returns c = let e : c.loop-n.n ≡ c.args.t = omega arith in (rw e at c.loop-n.invariant.1).front
+pub loop-place-preserved : goal.loop-place-preserved
+loop-place-preserved c = let l = c.loop-place in running_turn c.args.p _ _ _ _ _ _ _ l.invariant (omega arith) c.output.ensures c.moved-next.ensures

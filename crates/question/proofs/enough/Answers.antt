@@ -1,17 +1,12 @@
--- `question::enough` meets its contract.
-use Rattle.filling.specs.Theorems.{product_small}
-use mathlib.Core.Path.{refl}
-use native.Mathlib.Omega.{arith}
+-- `question::enough` meets its contract: the type bounds k and l.
+use Rattle.std.proofs.Common.{arith}
+use Rattle.filling.specs.Theorems.{ready-size, ready_bits, product_small}
 use Rattle.question.proofs.enough.Goals as goal
 
-pub overflow_mul-m : goal.overflow_mul-m
-overflow_mul-m c = omega (arith, product_small _ _ _ c.requires.0 c.requires.1 c.requires.2)
+pub overflow_mul-t : goal.overflow_mul-t
+overflow_mul-t c =
+    let p = c.args.bits.generator in
+    omega (arith, product_small _ c.args.t.0 c.args.bits.l (ready-size p) c.requires (omega (arith, c.args.bits.within, ready_bits p)))
 
-pub overflow_add-result : goal.overflow_add-result
-overflow_add-result c = omega (arith, c.requires.0)
-
-pub returns-then-m-k : goal.returns-then-m-k
-returns-then-m-k c = record { under = omega arith; most = omega arith; past = λ h. refl; all = λ h. absurd (omega arith) }
-
-pub returns : goal.returns
-returns c = record { under = omega arith; most = omega arith; past = λ h. absurd (omega arith); all = λ h. refl }
+pub overflow_add-size : goal.overflow_add-size
+overflow_add-size c = omega (arith, c.size.ensures, ready-size c.args.bits.generator)

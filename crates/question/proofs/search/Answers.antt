@@ -3,4 +3,4 @@ use Rattle.question.proofs.Laws.{searched}
 use Rattle.question.proofs.search.Goals as goal
 
 pub returns : goal.returns
-returns c = rw c.number.ensures (searched _ _ _ c.requires.3 _ _ _ c.fill.ensures c.set_tags.ensures _ _ _ c.eliminate-f.result c.eliminate-f.ensures)
+returns c = searched _ _ _ c.requires.0 _ _ _ c.fill.ensures c.set_tags.ensures _ _ _ _ c.eliminate.ensures

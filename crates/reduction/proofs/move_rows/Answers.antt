@@ -1,7 +1,9 @@
-use native.Mathlib.Omega.{arith}
-use Rattle.reduction.proofs.Packs.{moved_more}
+use Rattle.std.proofs.Common.{◌*◌}
+use Rattle.reduction.proofs.Packs.{copied, moved_more}
 use Rattle.reduction.proofs.move_rows.Goals as goal
 
 pub loop-p-preserved : goal.loop-p-preserved
 loop-p-preserved c =
-    (omega arith, moved_more _ _ _ _ _ c.requires.0 c.loop-p.invariant.1 _ c.copy_words.ensures)
+    let l = c.args.layout in
+    let done = copied (c.loop-p.p * l.stride) l.width c.copy_within.ensures.len c.copy_within.ensures.by_index in
+    moved_more _ _ _ _ _ l.width_within c.loop-p.invariant _ done

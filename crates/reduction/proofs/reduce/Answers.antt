@@ -1,24 +1,16 @@
 use native.Mathlib.Omega.{arith}
 use Rattle.reduction.proofs.Columns.{form_start, form_pass, form_turn}
 use Rattle.reduction.proofs.reduce.Goals as goal
-use Rattle.reduction.proofs.reduce.Goals.{in-At, in-Nothing}
+use Rattle.reduction.proofs.reduce.Goals.{in-Some, in_default}
 
 pub loop-c-init : goal.loop-c-init
-loop-c-init c = (omega arith, form_start _ _ _ _)
+loop-c-init c = form_start _ _ _ _
 
 pub loop-c-preserved : goal.loop-c-preserved
 loop-c-preserved c =
     let l = c.loop-c in
     let h = c.loop-c-test.true in
     elim c.match-find_row.branch [
-      | in-At w ↦ (
-        omega arith,
-        rw (w.buf-is, w.rank-is)
-            (form_turn _ _ _ _ _ _ _ l.invariant.1 (omega (arith, h, c.requires.2)) _ w.in-At.ensures _ w.take_pivot.ensures),
-      )
-      | in-Nothing w ↦ (
-        omega arith,
-        rw (w.buf-is, w.rank-is)
-            (form_pass _ _ _ _ _ _ _ l.invariant.1 (omega (arith, h, c.requires.2)) w.in-Nothing.ensures),
-      )
+      | in-Some w ↦ rw (w.buf-is, w.rank-is) (form_turn _ _ _ _ _ _ _ l.invariant (omega (arith, h, c.requires.1)) _ w.in-Some.ensures _ w.take_pivot.ensures)
+      | in_default w ↦ rw (w.buf-is, w.rank-is) (form_pass _ _ _ _ _ _ _ l.invariant (omega (arith, h, c.requires.1)) w.in_default.ensures)
     ]

@@ -1,32 +1,28 @@
-use Rattle.running.proofs.PrepareLaws.{last_kind}
-use Rattle.running.proofs.PrepareLaws.{for_one, for_two, for_three, for_four}
-use mathlib.Core.Path.{refl}
-use native.Mathlib.Omega.{arith}
+-- Of accepted fields, each arm of the match knows the kind's number, and so the ranges of that kind.
+use Rattle.std.proofs.Common.{inl, inr}
+use Rattle.running.proofs.PrepareLaws.{kind_is}
 use Rattle.running.proofs.prepare.Goals as goal
 
 pub of_tausworthe-requires : goal.of_tausworthe-requires
-of_tausworthe-requires c = c.requires.one c.if-kind-eq1.true
-
-pub returns-then-kind-eq1 : goal.returns-then-kind-eq1
-returns-then-kind-eq1 c = for_one _ _ c.if-kind-eq1.true c.of_tausworthe.ensures
+of_tausworthe-requires c = c.requires.one (kind_is _ _ c.requires c.in-Tausworthe.ensures)
 
 pub of_gfsr-requires : goal.of_gfsr-requires
-of_gfsr-requires c = c.requires.two c.if-kind-eq2.true
+of_gfsr-requires c = c.requires.two (kind_is _ _ c.requires c.in-Gfsr.ensures)
 
-pub returns-then-kind-eq2 : goal.returns-then-kind-eq2
-returns-then-kind-eq2 c = for_two _ _ c.if-kind-eq2.true c.of_gfsr.ensures
+pub of_twisted-requires : goal.of_twisted-requires
+of_twisted-requires c = c.requires.three (kind_is _ _ c.requires c.in-Twisted.ensures)
 
 pub of_twister-requires : goal.of_twister-requires
-of_twister-requires c = (c.requires.three c.if-kind-eq3.true, omega arith)
+of_twister-requires c = c.requires.four (kind_is _ _ c.requires c.in-Mersenne.ensures)
 
-pub returns-then-kind-eq3 : goal.returns-then-kind-eq3
-returns-then-kind-eq3 c = for_three _ _ _ _ _ c.if-kind-eq3.true refl c.count-w.ensures c.count-w.ensures c.of_twister.ensures
+pub returns-in-Tausworthe : goal.returns-in-Tausworthe
+returns-in-Tausworthe c = (kind_is _ _ c.requires c.in-Tausworthe.ensures, c.of_tausworthe.ensures)
 
-pub of_twister-requires-2 : goal.of_twister-requires-2
-of_twister-requires-2 c =
-    let x = c.requires.four (last_kind _ c.requires c.if-kind-eq1.false c.if-kind-eq2.false c.if-kind-eq3.false) in
-    (x.twist, omega (arith, x.p_most, c.count-p.ensures))
+pub returns-in-Gfsr : goal.returns-in-Gfsr
+returns-in-Gfsr c = (kind_is _ _ c.requires c.in-Gfsr.ensures, c.of_gfsr.ensures)
 
-pub returns : goal.returns
-returns c =
-    for_four _ _ _ _ _ (last_kind _ c.requires c.if-kind-eq1.false c.if-kind-eq2.false c.if-kind-eq3.false) c.count-p.ensures c.count-u.ensures c.count-v.ensures c.of_twister-2.ensures
+pub returns-in-Twisted : goal.returns-in-Twisted
+returns-in-Twisted c = inl (kind_is _ _ c.requires c.in-Twisted.ensures, c.of_twisted.ensures)
+
+pub returns-in-Mersenne : goal.returns-in-Mersenne
+returns-in-Mersenne c = inr (kind_is _ _ c.requires c.in-Mersenne.ensures, c.of_twister.ensures)

@@ -1,15 +1,8 @@
 use Rattle.document.specs.Limits.{row_words}
-use Rattle.states.proofs.StateLaws.{adding_start, adding_step, adding_end}
-use mathlib.Core.Path.{◌≡◌, refl}
-use native.Mathlib.Omega.{arith}
-use borrow.Author.Rules.{rules}
+use Rattle.std.proofs.Common.{rules}
+use Rattle.states.proofs.Made.{made}
+use Rattle.states.proofs.StateLaws.{added_is}
 use Rattle.states.proofs.added.Goals as goal
 
-pub loop-i-init : goal.loop-i-init
-loop-i-init c = (omega arith, adding_start _ _ _ _ refl)
-
-pub loop-i-preserved : goal.loop-i-preserved
-loop-i-preserved c = (omega arith, adding_step _ _ _ _ _ (omega arith) c.loop-i.invariant.1)
-
 pub returns : goal.returns
-returns c = let e : c.loop-i.i ≡ row_words = omega arith in adding_end row_words _ _ _ (search rules) (search rules) (rw e at c.loop-i.invariant.1)
+returns c = let m = c.from_fn.ensures.items in added_is row_words _ _ _ (search rules) (search rules) m.long (made _ _ _ (λ i r q k. search rules) _ _ m)

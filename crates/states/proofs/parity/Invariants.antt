@@ -1,10 +1,6 @@
-use Rattle.document.specs.Limits.{row_words}
 use Rattle.states.proofs.StateLaws.{Summing}
-use Prim.Native.Nat.{◌≤◌, ◌-◌}
+use Rattle.std.proofs.Common.{length}
 use Rattle.states.proofs.parity.Given as goal
 
-abbrev pub invariant-loop-i : goal.invariant-loop-i
-invariant-loop-i l = (l.i ≤ row_words) × Summing l.a l.b l.acc l.i
-
-abbrev pub decreases-loop-i : goal.decreases-loop-i
-decreases-loop-i l = row_words - l.i
+abbrev pub invariant-loop-x : goal.invariant-loop-x
+invariant-loop-x l = Summing l.fn.a l.fn.b l.common (length l.yielded)

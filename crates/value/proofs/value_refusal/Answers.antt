@@ -1,17 +1,9 @@
-use Rattle.document.specs.Refusals.{value_refusal}
+-- The tests of y are answered, so that an edit of the comparison is refused for it.
+use Rattle.std.proofs.Common.{refl, ap, lt-ltb, le-ltb}
+use Rattle.std.specs.Prelude.{not}
 use Rattle.document.specs.Lowest.{gives, skips, none_left}
-use Rattle.document.specs.Ranges.{inside}
-use mathlib.Core.Bool.{not}
-use borrow.Author.Tests.{lt-ltb, le-ltb}
-use mathlib.Core.Path.{refl, sym, ap, ◌∙◌}
+use Rattle.document.specs.Refusals.{value_refusal}
 use Rattle.value.proofs.value_refusal.Goals as goal
-
-pub returns-then-outside : goal.returns-then-outside
-unfolding value_refusal
-returns-then-outside c = gives _ _ _ _ c.outside.ensures c.if-outside.true
-
-pub power-requires : goal.power-requires
-power-requires c = (inside 1 32 c.args.l (sym c.outside.ensures ∙ c.if-outside.false)).1
 
 pub returns-then-power-y : goal.returns-then-power-y
 unfolding value_refusal

@@ -1,18 +1,19 @@
--- `arguments::asked_refusal`: the fields' chain, and where that gives none, the pair's.
-use mathlib.Core.Path.{sym, ap, ◌∙◌}
-use Rattle.document.specs.Refusals.{lowest, pair_cases}
-use Rattle.document.specs.Lowest.{fields_first, fields_then}
+-- The fields' chain, and where that gives none, the pair's.
+use Rattle.std.proofs.Common.{refl, sym, ap₂, ◌∙◌}
+use Rattle.document.proofs.Refused.{refused_first}
 use Rattle.document.proofs.Theorems.{ranges}
+use Rattle.document.specs.Refusals.{lowest, pair_cases}
+use Rattle.document.specs.Lowest.{fields_then}
 use Rattle.arguments.proofs.asked.asked_refusal.Goals as goal
 
-pub returns-then-refusal-ne0 : goal.returns-then-refusal-ne0
-returns-then-refusal-ne0 c = fields_first _ _ _ c.field_refusal-refusal.ensures c.if-refusal-ne0.true
+pub returns-in_err-field_refusal : goal.returns-in_err-field_refusal
+returns-in_err-field_refusal c = refused_first _ _ _ _ c.from_residual.ensures c.in_err-field_refusal.ensures
 
-pub size-k-requires : goal.size-k-requires
-size-k-requires c = ranges _ (sym c.field_refusal-refusal.ensures ∙ c.if-refusal-ne0.false)
+pub size-requires : goal.size-requires
+size-requires c = ranges _ (sym c.in_ok-field_refusal.ensures)
 
 pub returns : goal.returns
 returns c =
     let a = c.args in
-    fields_then a.g _ _ _ c.field_refusal-refusal.ensures c.if-refusal-ne0.false
-    (c.pair_refusal.ensures ∙ ap (λ k. lowest (pair_cases k a.g.bits a.t.0 a.l.0)) c.size-k.ensures)
+    fields_then a.g _ _ _ c.in_ok-field_refusal.ensures refl
+    (c.pair_refusal.ensures ∙ ap₂ (λ k L. lowest (pair_cases k L a.t.0 a.l.0)) c.size.ensures c.from.ensures)

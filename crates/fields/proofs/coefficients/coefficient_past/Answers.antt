@@ -1,23 +1,13 @@
-use Rattle.document.specs.Refusals.{any, coefficient_past}
-use Rattle.document.specs.Limits.{coefficient_bytes}
-use Rattle.document.specs.Ranges.{any_next, any_found}
-use mathlib.Core.Path.{◌≡◌, refl, sym, ◌∙◌}
-use Prim.Native.Nat.{◌*◌}
-use native.Mathlib.Omega.{arith}
-use borrow.Author.Rules.{rules}
+use Rattle.std.proofs.Common.{refl, ◌∙◌, ◌-◌, rules, tests}
+use Rattle.std.proofs.lemmas.Iterator.{YieldsList-from_range}
+use Rattle.std.proofs.lemmas.Iterator.Search.{any_from_yields_List}
+use Rattle.document.specs.Generator.{coefficient}
+use Rattle.document.specs.Refusals.{coefficient_past}
+use Rattle.fields.proofs.Laws.{any_from}
 use Rattle.fields.proofs.coefficients.coefficient_past.Goals as goal
-
-pub loop-i-init : goal.loop-i-init
-unfolding any
-loop-i-init c = (omega arith, refl)
-
-pub returns-then-late_coefficient : goal.returns-then-late_coefficient
-unfolding coefficient_past
-returns-then-late_coefficient c = sym (any_found (8 * coefficient_bytes) _ c.loop-i.i (search rules) (sym c.late_coefficient.ensures ∙ c.if-late_coefficient.true))
-
-pub loop-i-preserved : goal.loop-i-preserved
-loop-i-preserved c = (omega arith, any_next c.loop-i.i _ c.loop-i.invariant.1 (sym c.late_coefficient.ensures ∙ c.if-late_coefficient.false))
 
 pub returns : goal.returns
 unfolding coefficient_past
-returns c = let e : c.loop-i.i ≡ 8 * coefficient_bytes = omega arith in sym (rw e at c.loop-i.invariant.1)
+returns c =
+    any_from_yields_List (coefficient c.args.g) _ _ _ c.any.ensures.ran (YieldsList-from_range c.args.n 480 (480 - c.args.n) refl refl) (λ x b q k. search (rules, tests))
+    ∙ any_from (coefficient c.args.g) c.args.n 480

@@ -1,5 +1,5 @@
 use lib.Dec.{lit<}
-use lib.Pow.{shl_exact, pow_pos}
+use lib.Pow.{shl_exact}
 use lib.Bits.{and_mask}
 use native.Mathlib.Nat.{one-mul}
 use Prim.Native.Nat.{ℕ, ◌%◌, ◌^◌, ◌<◌}
@@ -10,9 +10,6 @@ use Rattle.states.proofs.words.low.Goals as goal
 
 one_shl : (w : ℕ) → w < 64 → 1 * 2 ^ w % 2 ^ 64 ≡ 2 ^ w
 one_shl w h = shl_exact {a = 1} 1 w 64 (lit< tt) (omega arith) ∙ one-mul (2 ^ w)
-
-pub overflow_sub-result : goal.overflow_sub-result
-overflow_sub-result c = rw (one_shl c.args.w (omega arith)) (pow_pos c.args.w)
 
 pub returns : goal.returns
 returns c = rw (one_shl c.args.w (omega arith)) (and_mask c.args.x c.args.w)

@@ -1,9 +1,0 @@
-use mathlib.Core.List.{◌∷◌, ◌++◌}
-use Rattle.document.specs.Description.{bytes, description}
-use Rattle.document.specs.Ranges.{is_one}
-use mathlib.Core.Path.{sym, ap, ◌∙◌}
-use Rattle.description.proofs.writing.tausworthe.Goals as goal
-
-pub returns : goal.returns
-unfolding description bytes
-returns c = c.long.ensures ∙ ap (λ h. h ++ c.args.g.coefficients) c.head-first.ensures ∙ ap (λ l. c.args.g.kind ∷ l) (sym (is_one _ _ _ _ _ c.requires))

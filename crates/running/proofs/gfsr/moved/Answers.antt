@@ -1,5 +1,0 @@
-use Rattle.running.proofs.KindTwo.{moved2_is}
-use Rattle.running.proofs.gfsr.moved.Goals as goal
-
-pub returns : goal.returns
-returns c = moved2_is c.args.p c.requires _ _ _ c.next-x.ensures c.shifted_up.ensures

@@ -1,5 +1,0 @@
-use Rattle.running.proofs.KindFour.{moved4_is}
-use Rattle.running.proofs.twister.moved.Goals as goal
-
-pub returns : goal.returns
-returns c = moved4_is c.args.p c.requires _ _ _ c.next-x.ensures c.shifted_up.ensures
