@@ -1,6 +1,7 @@
 // Rows of bits in words of 64, and elimination over them. Row p of a buffer begins at its word
 // p * stride; bit i of a row is worth 2^(i mod 64) in its word i div 64. Loops go over the rows by
-// number and not by chunks of the buffer, since a turn reads other rows than the one it writes.
+// number and not by chunks of the buffer, since a turn reads other rows than the one it writes. The
+// buffer stands beside its layout: a struct of both was tried, proves, and makes clauses a third longer.
 #![tactic(auto)]
 
 ghost use Rattle.std.specs.Prelude.{◌≡◌, ℕ, ◌+◌, ◌*◌, ◌/◌, ◌<◌, ◌≤◌, ◌^◌, length, get_or};
