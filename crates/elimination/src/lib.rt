@@ -2,6 +2,7 @@
 // p * stride; bit i of a row is worth 2^(i mod 64) in its word i div 64. Loops go over the rows by
 // number and not by chunks of the buffer, since a turn reads other rows than the one it writes. The
 // buffer stands beside its layout: a struct of both was tried, proves, and makes clauses a third longer.
+// The leaves take the buffer and the word where a row begins, and no part of it: an addition names two rows.
 #![tactic(auto)]
 
 ghost use Rattle.std.specs.Prelude.{◌≡◌, ℕ, ◌+◌, ◌*◌, ◌/◌, ◌<◌, ◌≤◌, ◌^◌, length, get_or};
@@ -14,7 +15,8 @@ mod layout;
 
 pub use layout::Layout;
 
-// Bit i of the row at word `at`.
+// Bit i of the row at word `at`. (The crate states has its own, of eight words by value: neither
+// stands on the other. So has `flip_bit`.)
 pub fn bit_at(buf: &[u64], at: usize, i: usize) -> bool
     requires { at + i / 64 < length buf.now }
     ensures { result ≡ bits_from buf.now at i }
@@ -100,7 +102,8 @@ pub fn reduce_row(buf: &mut [u64], r: usize, layout: Layout, slots: &[usize]) ->
     b
 }
 
-// Reduces row r by the rows before it and enters its leading bit; false if it is a sum of them.
+// Reduces row r by the rows before it and enters its leading bit; false if it is a sum of them. That
+// the slots are long enough is asked of each call: C lends them.
 pub fn take_row(buf: &mut [u64], r: usize, layout: Layout, slots: &mut [usize]) -> bool
     requires in_room { (r * layout.stride + layout.width ≤ length buf.old) × (64 * layout.lead ≤ length slots.old) × (r + 1 < 2 ^ 64) }
     requires slotted { Slotted (64 * layout.lead) r (rows_of buf.old layout.stride) (slot_of slots.old) }

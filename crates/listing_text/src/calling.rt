@@ -25,7 +25,8 @@ fn page(bytes: &[u8], out: &mut [u8]) -> Result<usize, Refusal>
     Ok(put_page(out, sizes(p), &report))
 }
 
-// The listing of the bytes of a description, at the front of a lent buffer, and its length; 0 where the buffer could be too short.
+// The listing of the bytes of a description, at the front of a lent buffer, and its length; 0 where the buffer could be too short:
+// C gets this number.
 pub fn listing(bytes: &[u8], out: &mut [u8]) -> usize
     ensures { Listed bytes.now out.old result out.new }
 {

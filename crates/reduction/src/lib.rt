@@ -18,7 +18,8 @@ pub fn find_row(buf: &[u64], from: usize, n: usize, stride: usize, c: usize) -> 
     (from..n).find(|p| elimination::bit_at(buf, *p * stride, c))
 }
 
-// Adds row r, whose words before that of the bit c are zero, into row q if that has the bit c.
+// Adds row r, whose words before that of the bit c are zero, into row q if that has the bit c. One
+// call of `add_words`, as in `bring_row`: what they share is that function.
 pub fn add_if(buf: &mut [u64], q: usize, r: usize, layout: Layout, c: usize)
     requires in_room { (q ≡ r → ⊥) × (q * layout.stride + layout.width ≤ length buf.old) × (r * layout.stride + layout.width ≤ length buf.old) × (c < 64 * layout.width) }
     requires zero { Zero (64 * (c / 64)) (rows_of buf.old layout.stride r) }
