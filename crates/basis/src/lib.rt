@@ -60,7 +60,7 @@ pub fn basis_check(g: Fields, t: Dimension, l: Resolution, room: usize) -> u32
 }
 
 // Brings the first n rows into reduced row echelon form at the front of the buffer, with zeros
-// behind them; gives their number.
+// behind them; gives their number. The buffer is a slice of any length, as C lends it; `admitted` tests it once.
 fn reduced_rows(work: &mut [u64], bits: OutputBits, n: usize) -> usize
     requires { (n ≤ most_bits) × (work_words ≤ length work.old) }
     ensures { Based (machine_of bits.generator) bits.l n work.old result work.new }

@@ -31,7 +31,7 @@ impl Page<'_> {
         self.end = end;
     }
 
-    // A number in decimal; std writes one only through `fmt`, or to the heap.
+    // A number in decimal; std writes one only through `fmt`, or to the heap. `as`: a digit fits a byte.
     pub fn number(&mut self, n: u32)
         requires { (n < most_number) × (self.old.end + number_bytes ≤ length self.old.out.now) }
         ensures { Added number_bytes self.old (decimal n) self.new }

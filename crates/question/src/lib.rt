@@ -112,7 +112,8 @@ fn carried_set(work: &[u64], found: Option<usize>) -> Option<Dependent>
     })
 }
 
-// The first dependent set of n rows, if there is one; leaves the work buffer as zero.
+// The first dependent set of n rows, if there is one; leaves the work buffer as zero. The buffer is a slice of any length, as C lends it;
+// `admitted` tests it once.
 fn decide(work: &mut [u64], bits: OutputBits, n: usize) -> Option<Dependent>
     requires { (n ≤ most_bits + 1) × (work_words ≤ length work.old) }
     ensures { Decided (machine_of bits.generator) bits.l n work.old result work.new }

@@ -24,7 +24,8 @@ pub fn sizes(p: Prepared) -> Sizes
     }
 }
 
-// The report of a prepared generator, made in a lent work buffer that is cleared at the end.
+// The report of a prepared generator, made in a lent work buffer that is cleared at the end. The buffer is a slice of any length, as C lends
+// it; the call tests it once.
 pub fn report_of(p: Prepared, work: &mut [u64]) -> Report
     requires { work_words ≤ length work.old }
     ensures { ReportMade p work.old result work.new }

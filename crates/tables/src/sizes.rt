@@ -24,7 +24,7 @@ impl Sizes {
         Resolution(self.bits.min(self.k / t.0))
     }
 
-    // The most that a dimension can be at the resolution l.
+    // The most that a dimension can be at the resolution l. Two functions, for the two sorts of count; `Axis::most` is the one form of both.
     pub fn most_dimension(self, l: Resolution) -> Dimension
         requires { 1 ≤ l.0 }
         ensures { result.0 ≡ self.k / l.0 }

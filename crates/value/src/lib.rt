@@ -51,7 +51,7 @@ fn fraction(y: u64, l: u32) -> f64
     (y as f64) / (p as f64)
 }
 
-// What refuses L, and then Y.
+// What refuses L, and then Y. `as`: a `usize` has no `From<u32>`.
 #[tactic(auto, unfolding(document::specs::Refusals::value_refusal, document::specs::Refusals::outside, document::specs::Refusals::lowest))]
 fn value_refusal(y: u64, l: u32) -> Result<(), Refusal>
     ensures { refusal_of result ≡ value_refusal y l }
