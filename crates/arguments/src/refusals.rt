@@ -17,6 +17,7 @@ pub fn dimension_refusal(k: usize, t: Dimension) -> Result<(), Refusal>
     Ok(())
 }
 
+// k and bits and no `Sizes`: it promises an answer for any two numbers.
 // What refuses t and l, for k state bits and outputs of `bits` bits.
 #[tactic(auto, unfolding(document::specs::Refusals::lowest))]
 pub fn pair_refusal(k: usize, bits: usize, t: Dimension, l: Resolution) -> Result<(), Refusal>

@@ -1,4 +1,5 @@
 // Numbers in bytes, the high byte first.
+// A number is named by where it stands, as the table of bodies has it.
 ghost use Rattle.std.specs.Prelude.{◌≡◌, ◌+◌, ◌≤◌, length, take, drop};
 ghost use Rattle.document.specs.Limits.{coefficient_bytes};
 ghost use Rattle.document.specs.Description.{number};

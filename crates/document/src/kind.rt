@@ -31,6 +31,7 @@ impl TryFrom<u8> for Kind {
 
 impl Kind {
     // The kind by whose rules fields with this byte are read: a byte that names no kind goes by the last one's.
+    // No Option: `range_refusal` and `length_of` promise an answer for every byte.
     pub fn column(byte: u8) -> Kind
         ensures { result ≡ column byte }
     {

@@ -22,6 +22,7 @@ impl From<Refusal> for u32 {
     ghost from_gives = { λ refusal number. number ≡ refusal_number refusal };
 
     fn from(refusal: Refusal) -> u32 {
+        // `as`: std has no `From` of an enum's number.
         refusal as u32
     }
 }

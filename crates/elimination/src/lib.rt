@@ -15,7 +15,7 @@ mod layout;
 
 pub use layout::Layout;
 
-// Bit i of the row at word `at`. (The crate states has its own, of eight words by value: neither
+// Bit i of the row at word `at`. (The crate states has its own, of an array of eight words: neither
 // stands on the other. So has `flip_bit`.)
 pub fn bit_at(buf: &[u64], at: usize, i: usize) -> bool
     requires { at + i / 64 < length buf.now }

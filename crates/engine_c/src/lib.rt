@@ -1,4 +1,5 @@
 // The engine's exports for C, for bench/ and tests: each hands on to the engine's function of its name, and promises the same.
+// A crate of its own, since a crate is a library or a static library.
 #![tactic(auto)]
 
 ghost use Rattle.engine.specs.Answers.{Eliminates, FirstSets, Bases};

@@ -1,4 +1,5 @@
 // The output bits that a call asks for, by a generator's fields and a pair (t, l).
+// Those are C's parameters; from here on they are one value.
 ghost use Rattle.std.specs.Prelude.{◌≡◌, IfOk};
 ghost use Rattle.document.specs.Answer.{refusal_of};
 ghost use Rattle.document.specs.Refusals.{lowest, asked_cases};

@@ -1,5 +1,5 @@
 // The output bits of a generator at one resolution, and their rows in a lent buffer. Loops go by the number of a row, since a row is made
-// from the one l rows before it in the same buffer.
+// from the one l rows before it in the same buffer. That the rows fit the buffer is asked at each call, as in elimination.
 ghost use Rattle.std.specs.Prelude.{◌≤◌};
 ghost use Rattle.running.specs.Prepared.{machine_of};
 

@@ -1,4 +1,5 @@
 // Rows of output bits, made one from another in a lent buffer, so that loops go over them by number.
+// A row is named by the word where it begins, as in elimination.
 #![tactic(auto)]
 
 ghost use Rattle.std.specs.Prelude.{◌≡◌, ℕ, ◌+◌, ◌<◌, ◌≤◌, length, get_or};

@@ -79,7 +79,7 @@ fn entry(i: usize, shape: Shape) -> u64 {
     }
 }
 
-// Does the last row have row p?
+// Does the last row have row p? `as`, as above.
 fn chosen(p: usize) -> bool {
     mixed(p as u64) % 2 == 1
 }

@@ -1,4 +1,5 @@
-// The question (t, l): is it yes, or which output bits always sum to zero?
+// The question (t, l): is it yes, or which output bits always sum to zero? That the rows fit the buffer is asked at each call, as in
+// elimination.
 #![tactic(auto)]
 
 ghost use Rattle.std.specs.Prelude.{◌≡◌, ◌+◌, ◌*◌, ◌<◌, ◌≤◌, length, IfOk, IfSome};

@@ -1,5 +1,7 @@
 // Reduced row echelon form in place, and the rows moved to the front of their buffer. Loops go over
 // rows and columns by number, since each turn reads one row and writes another of the same buffer.
+// The buffer stands beside its layout, as in elimination; where c lies, and what is zero before it,
+// are facts of that call's column.
 #![tactic(auto)]
 
 ghost use Rattle.std.specs.Prelude.{◌≡◌, ℕ, ◌+◌, ◌*◌, ◌/◌, ◌<◌, ◌≤◌, length};

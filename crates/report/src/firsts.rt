@@ -8,6 +8,7 @@ use filling::OutputBits;
 use running::{Prepared, Runs};
 
 // Entry l - 1: the number of the first output bit, at the resolution l, that is a sum of earlier ones; there is one among the first k + 1.
+// The buffer is a slice of any length, as C lends it; the call tests it once.
 pub fn first_bits(p: Prepared, work: &mut [u64]) -> [usize; MOST_OUTPUT]
     requires { work_words ≤ length work.old }
     ensures { FirstBits p work.old result work.new }

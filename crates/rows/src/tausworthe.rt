@@ -7,6 +7,7 @@ use crate::Rows;
 use document::ROW_WORDS;
 use running::Tausworthe;
 
+// k and the mask beside one another, as in `stepped` of running.
 // The row before one step.
 pub fn step_backed(k: usize, mask: [u64; ROW_WORDS], row: [u64; ROW_WORDS]) -> [u64; ROW_WORDS]
     requires { Mask k mask × Clear k (bits_of row) }

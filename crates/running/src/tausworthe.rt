@@ -7,6 +7,7 @@ ghost use Rattle.running.specs.Prepared.{Stepped, machine1};
 use crate::{Runs, Tausworthe, number};
 use document::ROW_WORDS;
 
+// k and the mask go beside one another, not as a `Tausworthe`: that also holds that the output has at most 32 bits, so it would ask more.
 // One step. The parity is the new bit plus the bit that moves down to k - 1, so that flipping leaves the new bit there.
 pub fn stepped(k: usize, mask: [u64; ROW_WORDS], s: [u64; ROW_WORDS]) -> [u64; ROW_WORDS]
     requires { Mask k mask }

@@ -17,6 +17,7 @@ pub mod words;
 
 pub use past::late_bit;
 
+// w and its bounds are a fact of each call: a word's width, or one bit.
 // The w bits of the state from position pos on. The state is lent: a copy would be laid in memory at each call, to be indexed.
 pub fn word_at(s: &[u64; ROW_WORDS], pos: usize, w: usize) -> u64
     requires { (pos + w ≤ state_bits) × (1 ≤ w) × (w ≤ 32) }
@@ -101,7 +102,7 @@ pub fn parity(a: [u64; ROW_WORDS], b: [u64; ROW_WORDS]) -> bool
     common.count_ones() % 2 == 1
 }
 
-// Bit i of the state.
+// Bit i of the state. (Elimination's is of a place in a lent buffer, and asks for the place and its room; so is `flip_bit`.)
 pub fn bit_at(s: &[u64; ROW_WORDS], i: usize) -> bool
     requires { i < state_bits }
     ensures { result ≡ bits_of s.now i }

@@ -24,6 +24,7 @@ pub fn yes(first: &[usize; MOST_OUTPUT], t: Dimension, l: Resolution) -> bool
 
 // Entry n - 1: the largest number from the most down that gets a yes, or 0; zero past the last entry.
 // Two loops in one function, and a store for each entry: document 01 asks for a labelled break and an array filled entry by entry.
+// That N is enough is asked in words: Rattle has no computed const argument, by which an axis could give N.
 fn table<A: Axis, const N: usize>(first: &[usize; MOST_OUTPUT], sizes: Sizes) -> [u32; N]
     requires { A.count sizes ≤ N }
     ensures { Entries N (A.count sizes) (λ n. largest (A.answer first.now n) (A.most sizes n)) result }
@@ -40,6 +41,7 @@ fn table<A: Axis, const N: usize>(first: &[usize; MOST_OUTPUT], sizes: Sizes) ->
     table
 }
 
+// The two tables by the names that docs/PROMISES.md gives them, each an instance of `table`.
 // Entry t - 1: the largest resolution from the most down that gets a yes, or 0; zero past k.
 pub fn resolutions(first: &[usize; MOST_OUTPUT], sizes: Sizes) -> [u32; MOST_BITS]
     ensures { Entries most_bits sizes.k (resolution_of (says first.now) sizes.k sizes.bits) result }
