@@ -10,7 +10,7 @@ pub slice_bounds-run-end : goal.slice_bounds-run-end
 slice_bounds-run-end c = omega (arith, (outputs_passed _ _ _ _ (sym c.in_ok-outputs_refusal.ensures)).1)
 
 pub slice_bounds-run-end-2 : goal.slice_bounds-run-end-2
-slice_bounds-run-end-2 c = sym (length-take-le _ _ (omega (arith, (outputs_passed _ _ _ _ (sym c.in_ok-outputs_refusal.ensures)).1)))
+slice_bounds-run-end-2 c = let fits = (outputs_passed _ _ _ _ (sym c.in_ok-outputs_refusal.ensures)).1 in search (length-take-le, arith, fits)
 
 pub returns : goal.returns
 returns c = ran_as _ _ _ _ c.in_ok-outputs_refusal.ensures _ c.prepare.ensures _ c.run.ensures
