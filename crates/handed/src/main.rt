@@ -7,6 +7,7 @@ ghost use Rattle.std.specs.Prelude.{◌≤◌};
 
 use document::{Dimension, Fields, ROW_WORDS, Resolution, WORK_WORDS};
 use records::Records;
+use std::array;
 
 const RECORD_BYTES: usize = 70;
 
@@ -73,6 +74,11 @@ fn line(rt: &impl Print) {
     let _ = rt.write_all(b"\n");
 }
 
+// The sixteen digits of a word. Not by `print!`, which lays a buffer for each: a record has thousands of words.
+fn digits(word: u64) -> [u8; 16] {
+    array::from_fn(|i| b"0123456789abcdef"[(word >> (60 - 4 * i)) as usize % 16])
+}
+
 // The check call's number, then the part.
 fn hand(rt: &impl Print, g: Fields, t: Dimension, l: Resolution, work: &mut [u64]) {
     let _ = print!(rt; "{}", basis::basis_check(g, t, l, work.len()));
@@ -83,7 +89,7 @@ fn hand(rt: &impl Print, g: Fields, t: Dimension, l: Resolution, work: &mut [u64
 // The rows of the part, one to a line.
 fn print_part(rt: &impl Print, part: &[u64]) {
     for (i, word) in part.iter().enumerate() {
-        let _ = print!(rt; "{word:016x}");
+        let _ = rt.write_all(&digits(*word));
         if i % ROW_WORDS == ROW_WORDS - 1 {
             line(rt);
         } else {
@@ -97,7 +103,7 @@ fn print_buffer(rt: &impl Print, work: &[u64]) {
     for run in work.chunk_by(|a, b| a == b) {
         let _ = print!(rt; "{}", run.len());
         space(rt);
-        let _ = print!(rt; "{:016x}", run[0]);
+        let _ = rt.write_all(&digits(run[0]));
         line(rt);
     }
     line(rt);
