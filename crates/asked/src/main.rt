@@ -46,7 +46,12 @@ fn show(rt: &impl Print, entry: &[u8; RECORD_BYTES], work: &mut [u64; WORK_WORDS
     match Asked::from(entry[66]) {
         Asked::EveryQuestion => ask_all(rt, fields, work),
         Asked::Report => print_report(rt, &report::report(fields, work)),
-        Asked::ShortBuffer => print_reply(rt, 1, 1, &ask(fields, 1, 1, &mut work[..WORK_WORDS - 1])),
+        Asked::ShortBuffer => print_reply(
+            rt,
+            1,
+            1,
+            &ask(fields, 1, 1, &mut work[..WORK_WORDS - 1]),
+        ),
         Asked::Nothing => print_reply(rt, 0, 0, &ask(fields, 0, 0, work)),
     }
 }
