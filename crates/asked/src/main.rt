@@ -60,40 +60,29 @@ fn ask(g: Fields, t: usize, l: usize, work: &mut [u64]) -> Reply {
     question::question(g, Dimension(t), Resolution(l), work)
 }
 
-// Each piece of the output is a write of its own, and one that fails is passed over: the next is tried all the same.
-fn put<D: Display + Drop>(rt: &impl Print, piece: D) {
-    let _ = rt.print(piece);
-}
-
-fn space(rt: &impl Print) {
+// A space and a number. Here and below each piece is a write of its own, and one that fails is passed over: the next is tried all the same.
+fn print_next<D: Display + Drop>(rt: &impl Print, number: D) {
     let _ = rt.write_all(b" ");
-}
-
-fn line(rt: &impl Print) {
-    let _ = rt.write_all(b"\n");
+    let _ = rt.print(number);
 }
 
 fn print_refused(rt: &impl Print, refusal: u32) {
     let _ = rt.write_all(b"refused ");
-    put(rt, refusal);
-    line(rt);
+    let _ = rt.print(refusal);
+    let _ = rt.write_all(b"\n");
 }
 
 fn print_reply(rt: &impl Print, t: usize, l: usize, reply: &Reply) {
-    put(rt, t);
-    space(rt);
-    put(rt, l);
-    space(rt);
-    put(rt, reply.refusal);
-    space(rt);
-    put(rt, u8::from(reply.yes));
-    space(rt);
-    put(rt, reply.d);
+    let _ = rt.print(t);
+    print_next(rt, l);
+    print_next(rt, reply.refusal);
+    print_next(rt, u8::from(reply.yes));
+    print_next(rt, reply.d);
     for word in &reply.set {
-        space(rt);
+        let _ = rt.write_all(b" ");
         let _ = print!(rt; "{word:016x}");
     }
-    line(rt);
+    let _ = rt.write_all(b"\n");
 }
 
 // Was t or l refused? The reply is C's and has the refusal's number.
@@ -124,18 +113,16 @@ fn ask_all(rt: &impl Print, g: Fields, work: &mut [u64]) {
 
 fn print_table(rt: &impl Print, table: &[u32]) {
     for entry in table {
-        put(rt, *entry);
-        line(rt);
+        let _ = rt.print(*entry);
+        let _ = rt.write_all(b"\n");
     }
 }
 
 fn print_report(rt: &impl Print, r: &Report) {
     print_table(rt, &r.resolutions);
     print_table(rt, &r.dimensions);
-    put(rt, r.resolution_sum);
-    space(rt);
-    put(rt, r.dimension_sum);
-    space(rt);
-    put(rt, u8::from(r.me));
-    line(rt);
+    let _ = rt.print(r.resolution_sum);
+    print_next(rt, r.dimension_sum);
+    print_next(rt, u8::from(r.me));
+    let _ = rt.write_all(b"\n");
 }

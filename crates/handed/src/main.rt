@@ -65,24 +65,16 @@ fn show(rt: &impl Print, entry: &[u8; RECORD_BYTES]) {
     print_buffer(rt, &work);
 }
 
-// Each piece of the output is a write of its own, and one that fails is passed over: the next is tried all the same.
-fn space(rt: &impl Print) {
-    let _ = rt.write_all(b" ");
-}
-
-fn line(rt: &impl Print) {
-    let _ = rt.write_all(b"\n");
-}
-
 // The sixteen digits of a word. Not by `print!`, which lays a buffer for each: a record has thousands of words.
 fn digits(word: u64) -> [u8; 16] {
     array::from_fn(|i| b"0123456789abcdef"[(word >> (60 - 4 * i)) as usize % 16])
 }
 
-// The check call's number, then the part.
+// The check call's number, then the part. Here and below each piece is a write of its own, and one that fails is passed over: the next is
+// tried all the same.
 fn hand(rt: &impl Print, g: Fields, t: Dimension, l: Resolution, work: &mut [u64]) {
     let _ = print!(rt; "{}", basis::basis_check(g, t, l, work.len()));
-    line(rt);
+    let _ = rt.write_all(b"\n");
     print_part(rt, basis::basis(g, t, l, work));
 }
 
@@ -90,11 +82,12 @@ fn hand(rt: &impl Print, g: Fields, t: Dimension, l: Resolution, work: &mut [u64
 fn print_part(rt: &impl Print, part: &[u64]) {
     for (i, word) in part.iter().enumerate() {
         let _ = rt.write_all(&digits(*word));
-        if i % ROW_WORDS == ROW_WORDS - 1 {
-            line(rt);
+        let end = if i % ROW_WORDS == ROW_WORDS - 1 {
+            b"\n"
         } else {
-            space(rt);
-        }
+            b" "
+        };
+        let _ = rt.write_all(end);
     }
 }
 
@@ -102,9 +95,9 @@ fn print_part(rt: &impl Print, part: &[u64]) {
 fn print_buffer(rt: &impl Print, work: &[u64]) {
     for run in work.chunk_by(|a, b| a == b) {
         let _ = print!(rt; "{}", run.len());
-        space(rt);
+        let _ = rt.write_all(b" ");
         let _ = rt.write_all(&digits(run[0]));
-        line(rt);
+        let _ = rt.write_all(b"\n");
     }
-    line(rt);
+    let _ = rt.write_all(b"\n");
 }

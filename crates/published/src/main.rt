@@ -36,18 +36,14 @@ fn show(rt: &impl Print, entry: &[u8; RECORD_BYTES]) {
 fn refused(rt: &impl Print, refusal: u32) {
     let _ = rt.write_all(b"refused ");
     let _ = print!(rt; "{refusal}");
-    line(rt);
+    let _ = rt.write_all(b"\n");
 }
 
 fn list(rt: &impl Print, out: &[u32]) {
     for y in out {
         let _ = print!(rt; "{y}");
-        line(rt);
+        let _ = rt.write_all(b"\n");
     }
-    line(rt);
-}
-
-fn line(rt: &impl Print) {
     let _ = rt.write_all(b"\n");
 }
 
