@@ -7,7 +7,7 @@ use document::{Dimension, Fields, MOST_BITS, MOST_OUTPUT, Refusal, Resolution, W
 use question::Reply;
 use records::Records;
 use report::Report;
-use std::io;
+use std::fmt::Display;
 
 const RECORD_BYTES: usize = 67;
 
@@ -34,19 +34,24 @@ impl From<u8> for Asked {
 fn main(rt: HostRuntime) {
     let mut work = [0u64; WORK_WORDS];
     for entry in Records::<_, RECORD_BYTES>::new(rt.stdin()) {
-        let _ = show(&rt, &entry, &mut work);
+        show(&rt, &entry, &mut work);
     }
 }
 
-fn show(rt: &impl Print, entry: &[u8; RECORD_BYTES], work: &mut [u64]) -> io::Result<()> {
+fn show(rt: &impl Print, entry: &[u8; RECORD_BYTES], work: &mut [u64; WORK_WORDS]) {
     let fields = match description::parse(records::description(entry)) {
         Ok(fields) => fields,
-        Err(refusal) => return println!(rt; "refused {}", u32::from(refusal)),
+        Err(refusal) => return print_refused(rt, u32::from(refusal)),
     };
     match Asked::from(entry[66]) {
         Asked::EveryQuestion => ask_all(rt, fields, work),
         Asked::Report => print_report(rt, &report::report(fields, work)),
-        Asked::ShortBuffer => ask_short(rt, fields),
+        Asked::ShortBuffer => print_reply(
+            rt,
+            1,
+            1,
+            &ask(fields, 1, 1, &mut work[..WORK_WORDS - 1]),
+        ),
         Asked::Nothing => print_reply(rt, 0, 0, &ask(fields, 0, 0, work)),
     }
 }
@@ -55,17 +60,29 @@ fn ask(g: Fields, t: usize, l: usize, work: &mut [u64]) -> Reply {
     question::question(g, Dimension(t), Resolution(l), work)
 }
 
-fn print_reply(rt: &impl Print, t: usize, l: usize, reply: &Reply) -> io::Result<()> {
-    print!(rt;
-        "{t} {l} {} {} {}",
-        reply.refusal,
-        u8::from(reply.yes),
-        reply.d
-    )?;
+// A space and a number. Here and below each piece is a write of its own, and one that fails is passed over: the next is tried all the same.
+fn print_next<D: Display + Drop>(rt: &impl Print, number: D) {
+    let _ = rt.write_all(b" ");
+    let _ = rt.print(number);
+}
+
+fn print_refused(rt: &impl Print, refusal: u32) {
+    let _ = rt.write_all(b"refused ");
+    let _ = rt.print(refusal);
+    let _ = rt.write_all(b"\n");
+}
+
+fn print_reply(rt: &impl Print, t: usize, l: usize, reply: &Reply) {
+    let _ = rt.print(t);
+    print_next(rt, l);
+    print_next(rt, reply.refusal);
+    print_next(rt, u8::from(reply.yes));
+    print_next(rt, reply.d);
     for word in &reply.set {
-        print!(rt; " {word:016x}")?;
+        let _ = rt.write_all(b" ");
+        let _ = print!(rt; "{word:016x}");
     }
-    println!(rt)
+    let _ = rt.write_all(b"\n");
 }
 
 // Was t or l refused? The reply is C's and has the refusal's number.
@@ -75,46 +92,37 @@ fn is_out_of_range(reply: &Reply) -> bool {
 }
 
 // Every resolution of a dimension, until one is out of range, as each is of a dimension out of range; gives how many were not.
-fn ask_dimension(rt: &impl Print, g: Fields, t: usize, work: &mut [u64]) -> io::Result<usize> {
+fn ask_dimension(rt: &impl Print, g: Fields, t: usize, work: &mut [u64]) -> usize {
     for l in 1..=MOST_OUTPUT {
         let reply = ask(g, t, l, work);
         if is_out_of_range(&reply) {
-            return Ok(l - 1);
+            return l - 1;
         }
-        print_reply(rt, t, l, &reply)?;
+        print_reply(rt, t, l, &reply);
     }
-    Ok(MOST_OUTPUT)
+    MOST_OUTPUT
 }
 
-fn ask_all(rt: &impl Print, g: Fields, work: &mut [u64]) -> io::Result<()> {
+fn ask_all(rt: &impl Print, g: Fields, work: &mut [u64]) {
     for t in 1..=MOST_BITS {
-        if ask_dimension(rt, g, t, work)? == 0 {
+        if ask_dimension(rt, g, t, work) == 0 {
             break;
         }
     }
-    Ok(())
 }
 
-fn print_table(rt: &impl Print, table: &[u32]) -> io::Result<()> {
+fn print_table(rt: &impl Print, table: &[u32]) {
     for entry in table {
-        println!(rt; "{entry}")?;
+        let _ = rt.print(*entry);
+        let _ = rt.write_all(b"\n");
     }
-    Ok(())
 }
 
-fn print_report(rt: &impl Print, r: &Report) -> io::Result<()> {
-    print_table(rt, &r.resolutions)?;
-    print_table(rt, &r.dimensions)?;
-    println!(rt;
-        "{} {} {}",
-        r.resolution_sum,
-        r.dimension_sum,
-        u8::from(r.me)
-    )
-}
-
-// A question with a work buffer that is one word short.
-fn ask_short(rt: &impl Print, g: Fields) -> io::Result<()> {
-    let mut short = [0u64; WORK_WORDS - 1];
-    print_reply(rt, 1, 1, &ask(g, 1, 1, &mut short))
+fn print_report(rt: &impl Print, r: &Report) {
+    print_table(rt, &r.resolutions);
+    print_table(rt, &r.dimensions);
+    let _ = rt.print(r.resolution_sum);
+    print_next(rt, r.dimension_sum);
+    print_next(rt, u8::from(r.me));
+    let _ = rt.write_all(b"\n");
 }

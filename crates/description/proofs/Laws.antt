@@ -1,10 +1,10 @@
 -- Numbers in bytes, and the bytes of each kind.
 use mathlib.Core.Path.{◌≡◌, refl, sym, ap, ap₂, ◌∙◌}
 use mathlib.Core.Bool.{Bool, true, false, cond, not, ◌||◌}
-use mathlib.Core.List.{List, []}
+use mathlib.Core.List.{List, [], ◌++◌}
 use Prim.Native.Nat.{ℕ, ◌≤◌, ◌<◌}
 use native.Mathlib.Omega.{arith}
-use lib.ListN.{length, get_or}
+use lib.ListN.{length, get_or, drop}
 use Rattle.document.specs.declared.Fields.{Fields}
 use Rattle.document.specs.Generator.{by_kind}
 use Rattle.document.specs.Description.{bytes, length_of, fields_of}
@@ -41,6 +41,10 @@ length_some kind = go (eqb kind 1) (eqb kind 2) (eqb kind 3)
     go false true z = omega arith
     go false false true = omega arith
     go false false false = omega arith
+
+-- all of a description, and the buffer behind it
+pub put_is : (d e was now : List ℕ) (n : ℕ) → d ≡ e → length d ≡ n → now ≡ d ++ drop (length d) was → now ≡ e ++ drop n was
+put_is d e was now n p q h = h ∙ ap₂ ◌++◌ p (ap (λ k. drop k was) q)
 
 -- what is known where nothing refuses to write
 pub write_room : (g : Fields) (room : ℕ) → write_refusal g room ≡ 0 → length_of g.kind ≤ room

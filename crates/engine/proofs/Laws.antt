@@ -1,6 +1,7 @@
 -- What is answered in each case.
 use mathlib.Core.Path.{◌≡◌, refl}
 use mathlib.Core.List.{List}
+use mathlib.Core.Bool.{Bool, true, false, true≢false, false≢true}
 use Prim.Native.Nat.{ℕ, ◌*◌, ◌/◌, ◌<◌}
 use native.Mathlib.Omega.{arith}
 use lib.ListN.{length}
@@ -11,7 +12,22 @@ use Rattle.elimination.proofs.RowBits.{bits_same}
 use Rattle.std.specs.Prelude.{Option, Some, None, unwrap_or}
 use Rattle.reduction.specs.Columns.{ReducedForm}
 use Rattle.reduction.specs.Packs.{Packed}
-use Rattle.engine.specs.Answers.{Fits, Sized, Roomy, Eliminates, FirstSets, Bases, bad}
+use Rattle.engine.specs.Answers.{Tells, Fits, Sized, Roomy, Eliminates, FirstSets, Bases, bad}
+
+-- ---- the test `!t`
+
+pub told_no : (t : Bool) {A : Type 0} → t ≡ false → Tells t A → ¬ A
+told_no true e x = absurd (true≢false e)
+told_no false e x = x
+
+pub told_yes : (t : Bool) {A : Type 0} → t ≡ true → Tells t A → A
+told_yes true e x = x
+told_yes false e x = absurd (false≢true e)
+
+-- what is left of a question
+pub told_rest : (t : Bool) {A B : Type 0} → (A → B) → (B → A) → Tells t A → Tells t B
+told_rest true f g x = f x
+told_rest false f g x = λ b. x (g b)
 
 module _ (ws : List ℕ) (rows stride width lead : ℕ) (slots : List ℕ) where
   -- ---- without sets

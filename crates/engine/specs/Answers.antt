@@ -1,10 +1,15 @@
 -- What the functions of the boundary answer.
-use Rattle.std.specs.Prelude.{◌≡◌, List, Option, MatchOption, false, ℕ, ◌+◌, ◌-◌, ◌*◌, ◌<◌, ◌≤◌, length}
+use Rattle.std.specs.Prelude.{◌≡◌, List, Bool, true, false, Option, MatchOption, ℕ, ◌+◌, ◌-◌, ◌*◌, ◌<◌, ◌≤◌, length}
 use Rattle.span.specs.Def.{DependentRows, IndependentRows}
 use Rattle.elimination.specs.Rows.{rows_of, set_of, Stopped, Finished}
 use Rattle.elimination.specs.declared.layout.Layout.{Layout}
 use Rattle.reduction.specs.Columns.{ReducedForm}
 use Rattle.reduction.specs.Packs.{Packed}
+
+-- the answer to the question whether A
+abbrev pub Tells : Bool → Type 0 → Type 0
+Tells true A = A
+Tells false A = ¬ A
 
 -- the layout of these sizes, exactly where A holds
 abbrev pub LaidOut : ℕ → ℕ → ℕ → Type 0 → Option Layout → Type 0

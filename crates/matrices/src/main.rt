@@ -6,7 +6,7 @@
 ghost use Rattle.std.specs.Prelude.{◌*◌, ◌≤◌};
 ghost use Rattle.matrices.specs.declared.TheConstants.{WORDS};
 
-use std::io;
+use std::fmt::Display;
 
 // The words of the buffer, and of the engine's slots.
 const WORDS: usize = 10101;
@@ -119,8 +119,14 @@ fn checksum(buf: &[u64]) -> u64 {
         .fold(0, |sum, word| mixed(sum).wrapping_add(*word))
 }
 
+// A label and a number. Each is a write of its own, and one that fails is passed over: the next is tried all the same.
+fn put<D: Display + Drop>(rt: &impl Print, label: &[u8], number: D) {
+    let _ = rt.write_all(label);
+    let _ = rt.print(number);
+}
+
 // The first row that is a sum of earlier ones, and the set.
-fn show_set(rt: &impl Print, room: &mut Room, shape: Shape) -> io::Result<()> {
+fn show_set(rt: &impl Print, room: &mut Room, shape: Shape) {
     let Shape {
         rows,
         stride,
@@ -135,19 +141,18 @@ fn show_set(rt: &impl Print, room: &mut Room, shape: Shape) -> io::Result<()> {
         lead,
         &mut room.slots,
     );
-    print!(rt; "d {d}")?;
+    put(rt, b"d ", d);
     if d >= rows {
-        return Ok(());
+        return;
     }
-    print!(rt; " set")?;
+    let _ = rt.write_all(b" set");
     for word in room.buf.iter().skip(d * stride + lead).take(sets) {
-        print!(rt; " {word}")?;
+        put(rt, b" ", *word);
     }
-    Ok(())
 }
 
 // The same without sets.
-fn show_row(rt: &impl Print, room: &mut Room, shape: Shape) -> io::Result<()> {
+fn show_row(rt: &impl Print, room: &mut Room, shape: Shape) {
     let Shape {
         rows,
         stride,
@@ -162,11 +167,11 @@ fn show_row(rt: &impl Print, room: &mut Room, shape: Shape) -> io::Result<()> {
         lead,
         &mut room.slots,
     );
-    print!(rt; " again {d}")
+    put(rt, b" again ", d);
 }
 
 // The rank, and a checksum of the whole buffer with the reduced rows at its front.
-fn show_basis(rt: &impl Print, room: &mut Room, shape: Shape) -> io::Result<()> {
+fn show_basis(rt: &impl Print, room: &mut Room, shape: Shape) {
     let Shape {
         rows,
         stride,
@@ -174,51 +179,53 @@ fn show_basis(rt: &impl Print, room: &mut Room, shape: Shape) -> io::Result<()> 
         ..
     } = shape;
     let rank = engine::dayunglipo_engine_basis(&mut room.buf, rows, stride, lead, 64 * lead);
-    println!(rt; " rank {rank} sum {}", checksum(&room.buf))
+    put(rt, b" rank ", rank);
+    put(rt, b" sum ", checksum(&room.buf));
+    let _ = rt.write_all(b"\n");
 }
 
 // The three answers for one matrix, which each of them destroys.
-fn answer(rt: &impl Print, room: &mut Room, shape: Shape, kind: Kind) -> io::Result<()> {
+fn answer(rt: &impl Print, room: &mut Room, shape: Shape, kind: Kind) {
     prepare(&mut room.buf, shape, kind);
-    show_set(rt, room, shape)?;
+    show_set(rt, room, shape);
     prepare(&mut room.buf, shape, kind);
-    show_row(rt, room, shape)?;
+    show_row(rt, room, shape);
     prepare(&mut room.buf, shape, kind);
-    show_basis(rt, room, shape)
+    show_basis(rt, room, shape);
 }
 
 // Rows of one leading word: zero, of full rank, dependent at the last row, more rows than bits.
-fn narrow(rt: &impl Print, room: &mut Room) -> io::Result<()> {
-    answer(rt, room, Shape::new(5, 2, 1, 1), Kind::Zero)?;
-    answer(rt, room, Shape::new(50, 3, 1, 1), Kind::Mixed)?;
-    answer(rt, room, Shape::new(60, 2, 1, 1), Kind::LastSum)?;
-    answer(rt, room, Shape::new(100, 3, 2, 1), Kind::Mixed)
+fn narrow(rt: &impl Print, room: &mut Room) {
+    answer(rt, room, Shape::new(5, 2, 1, 1), Kind::Zero);
+    answer(rt, room, Shape::new(50, 3, 1, 1), Kind::Mixed);
+    answer(rt, room, Shape::new(60, 2, 1, 1), Kind::LastSum);
+    answer(rt, room, Shape::new(100, 3, 2, 1), Kind::Mixed);
 }
 
 // Eight leading words: dependent at the first row, at the last, of full rank, at the 481st row.
-fn middle(rt: &impl Print, room: &mut Room) -> io::Result<()> {
-    answer(rt, room, Shape::new(40, 16, 8, 8), Kind::FirstZero)?;
-    answer(rt, room, Shape::new(100, 16, 8, 8), Kind::LastSum)?;
-    answer(rt, room, Shape::new(480, 16, 8, 8), Kind::Mixed)?;
-    answer(rt, room, Shape::new(481, 16, 8, 8), Kind::LastSum)
+fn middle(rt: &impl Print, room: &mut Room) {
+    answer(rt, room, Shape::new(40, 16, 8, 8), Kind::FirstZero);
+    answer(rt, room, Shape::new(100, 16, 8, 8), Kind::LastSum);
+    answer(rt, room, Shape::new(480, 16, 8, 8), Kind::Mixed);
+    answer(rt, room, Shape::new(481, 16, 8, 8), Kind::LastSum);
 }
 
 // Thirteen leading words: dependent at the 481st row; and of full rank, with a set too wide.
-fn wide(rt: &impl Print, room: &mut Room) -> io::Result<()> {
-    answer(rt, room, Shape::new(481, 21, 8, 13), Kind::LastSum)?;
-    answer(rt, room, Shape::new(481, 21, 9, 13), Kind::Mixed)
+fn wide(rt: &impl Print, room: &mut Room) {
+    answer(rt, room, Shape::new(481, 21, 8, 13), Kind::LastSum);
+    answer(rt, room, Shape::new(481, 21, 9, 13), Kind::Mixed);
 }
 
-fn show(rt: &impl Print) -> io::Result<()> {
+fn show(rt: &impl Print) {
     let mut room = Room {
         buf: [0; WORDS],
         slots: [0; SLOTS],
     };
-    narrow(rt, &mut room)?;
-    middle(rt, &mut room)?;
-    wide(rt, &mut room)
+    narrow(rt, &mut room);
+    middle(rt, &mut room);
+    wide(rt, &mut room);
 }
 
 fn main(rt: HostRuntime) {
-    let _ = show(&rt);
+    show(&rt);
 }

@@ -4,7 +4,7 @@
 
 use document::{Dimension, ROW_WORDS};
 use records::Records;
-use std::{array, io};
+use std::array;
 
 const RECORD_BYTES: usize = 131;
 
@@ -13,11 +13,11 @@ const MOST_OUTPUTS: usize = 40;
 
 fn main(rt: HostRuntime) {
     for entry in Records::<_, RECORD_BYTES>::new(rt.stdin()) {
-        let _ = show(&rt, &entry);
+        show(&rt, &entry);
     }
 }
 
-fn show(rt: &impl Print, entry: &[u8; RECORD_BYTES]) -> io::Result<()> {
+fn show(rt: &impl Print, entry: &[u8; RECORD_BYTES]) {
     let fields = match description::parse(records::description(entry)) {
         Ok(fields) => fields,
         Err(refusal) => return refused(rt, u32::from(refusal)),
@@ -29,18 +29,22 @@ fn show(rt: &impl Print, entry: &[u8; RECORD_BYTES]) -> io::Result<()> {
     if refusal != 0 {
         return refused(rt, refusal);
     }
-    list(rt, &out[..t])
+    list(rt, &out[..t]);
 }
 
-fn refused(rt: &impl Print, refusal: u32) -> io::Result<()> {
-    println!(rt; "refused {refusal}")
+// Here and below each piece is a write of its own, and one that fails is passed over: the next is tried all the same.
+fn refused(rt: &impl Print, refusal: u32) {
+    let _ = rt.write_all(b"refused ");
+    let _ = print!(rt; "{refusal}");
+    let _ = rt.write_all(b"\n");
 }
 
-fn list(rt: &impl Print, out: &[u32]) -> io::Result<()> {
+fn list(rt: &impl Print, out: &[u32]) {
     for y in out {
-        println!(rt; "{y}")?;
+        let _ = print!(rt; "{y}");
+        let _ = rt.write_all(b"\n");
     }
-    println!(rt)
+    let _ = rt.write_all(b"\n");
 }
 
 // The start state: eight words, the high byte of each first.

@@ -87,9 +87,12 @@ pub fn reduce(buf: &mut [u64], n: usize, layout: Layout, k: usize) -> usize
 {
     let mut rank = 0;
     for c in 0..k {
-        if let Some(p) = find_row(buf, rank, n, layout.stride, c) {
-            take_pivot(buf, n, rank, p, layout, c);
-            rank += 1;
+        // Once each row leads a column, no row is looked for.
+        if rank < n {
+            if let Some(p) = find_row(buf, rank, n, layout.stride, c) {
+                take_pivot(buf, n, rank, p, layout, c);
+                rank += 1;
+            }
         }
     }
     rank

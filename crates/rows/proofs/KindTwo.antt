@@ -1,6 +1,6 @@
 -- Kind 2: the first word added at each word that has its coefficient.
 use mathlib.Core.Path.{◌≡◌, sym, ap, ap₂, ◌∙◌}
-use mathlib.Core.Bool.{true, false, ◌&&◌}
+use mathlib.Core.Bool.{Bool, true, false, ◌&&◌}
 use mathlib.Core.List.{List}
 use Prim.Native.Nat.{ℕ, ◌+◌, ◌*◌, ◌<◌}
 use native.Mathlib.Numerals.{add-one}
@@ -17,6 +17,14 @@ use Rattle.running.specs.declared.ready.Gfsr.{Gfsr}
 use Rattle.running.specs.Prepared.{machine2}
 use Rattle.rows.specs.Post.{FirstRow, BackRow}
 use Rattle.rows.proofs.Laws.{from_first, from_back}
+
+-- a choice that was made
+module _ (b : Bool) (d : List ℕ) (pos n y : ℕ) where
+  pub chosen : (r : List ℕ) → b ≡ true → ((i : ℕ) → bits_of r i ≡ bits_of d i ⊕ place pos n (digit y) i) → (i : ℕ) → bits_of r i ≡ bits_of d i ⊕ b && place pos n (digit y) i
+  chosen r e f i = rw e (f i)
+
+  pub not_chosen : b ≡ false → (i : ℕ) → bits_of d i ≡ bits_of d i ⊕ b && place pos n (digit y) i
+  not_chosen e i = rw e (sym (⊕_false (bits_of d i)))
 
 -- d is c with the word y added at the first i words that are chosen
 pub record Laid (mask : List ℕ) (w y : ℕ) (c d : List ℕ) (i : ℕ) : Type 0 where

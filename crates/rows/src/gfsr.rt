@@ -1,7 +1,32 @@
 // Kind 2. A move transposed takes a row down by a word, and adds its first word at each word that has its coefficient.
+ghost use Rattle.std.specs.Prelude.{◌≡◌, ◌&&◌, ℕ, ◌+◌, ◌<◌, ◌≤◌, ◌^◌};
+ghost use Rattle.theory.specs.Def.{◌⊕◌};
+ghost use Rattle.digits.specs.Def.{digit, bits_of};
+ghost use Rattle.kinds.specs.Transpose.{place};
+ghost use Rattle.states.specs.Post.{state_bits};
+
 use crate::Rows;
 use document::ROW_WORDS;
 use running::Gfsr;
+
+// The row with the n bits of y added at position pos, if they are chosen. A turn of `backed` is this, written out: it has the choice
+// where the row is, and so copies none.
+pub fn placed_if(
+    chosen: bool,
+    row: [u64; ROW_WORDS],
+    pos: usize,
+    n: usize,
+    y: u64,
+) -> [u64; ROW_WORDS]
+    requires { (pos + n < state_bits) × (n ≤ 32) × (y < 2 ^ n) }
+    ensures { (i : ℕ) → bits_of result i ≡ bits_of row i ⊕ chosen && place pos n (digit y) i }
+{
+    if chosen {
+        states::placed(row, pos, n, y)
+    } else {
+        row
+    }
+}
 
 #[tactic(auto, unfolding(kinds::specs::Generator::gfsr))]
 impl Rows for Gfsr {

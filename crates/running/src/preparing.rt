@@ -74,8 +74,8 @@ pub fn of_gfsr(g: Fields) -> Gfsr
     }
 }
 
-// Kinds 3 and 4: the last word lacks p bits, and the right shifts are u and v.
-fn shaped(g: Fields, p: u8, u: u8, v: u8) -> Twister
+// Kinds 3 and 4: the last word lacks p bits, and the right shifts are u and v, whatever the fields say of these three.
+pub fn shaped(g: Fields, p: usize, u: usize, v: usize) -> Twister
     requires { TwistRanges g × (p < g.w) × (u ≤ g.w) × (v ≤ g.w) }
     ensures { Prepared4 g result p u v }
 {
@@ -83,15 +83,15 @@ fn shaped(g: Fields, p: u8, u: u8, v: u8) -> Twister
         r: usize::from(g.r),
         m: usize::from(g.m),
         w: usize::from(g.w),
-        p: usize::from(p),
+        p,
         bits: usize::from(g.bits),
         a: word_of(g.a, g.w),
-        u: usize::from(u),
+        u,
         s: usize::from(g.s),
         b: word_of(g.b, g.w),
         t: usize::from(g.t),
         c: word_of(g.c, g.w),
-        v: usize::from(v),
+        v,
     }
 }
 
@@ -100,7 +100,8 @@ pub fn of_twisted(g: Fields) -> Twister
     requires { TwistRanges g }
     ensures { Prepared4 g result 0 g.w g.w }
 {
-    shaped(g, 0, g.w, g.w)
+    let w = usize::from(g.w);
+    shaped(g, 0, w, w)
 }
 
 // Kind 4.
@@ -108,5 +109,5 @@ pub fn of_twister(g: Fields) -> Twister
     requires { Ranges4 g }
     ensures { Prepared4 g result g.p g.u g.v }
 {
-    shaped(g, g.p, g.u, g.v)
+    shaped(g, usize::from(g.p), usize::from(g.u), usize::from(g.v))
 }

@@ -72,7 +72,8 @@ pub fn gap_sum<A: Axis, const N: usize>(table: &[u32; N], sizes: Sizes) -> u32
 {
     let mut sum: u32 = 0;
     for (i, entry) in table[..A::entries(sizes)].iter().enumerate() {
-        sum += gap(A::most(sizes, i + 1), *entry);
+        let lack = gap(A::most(sizes, i + 1), *entry);
+        sum += lack;
     }
     sum
 }
