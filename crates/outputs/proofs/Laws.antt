@@ -85,3 +85,8 @@ ran_as g t state was z p q mid x =
       front = λ _. front_of t _ _ was mid room (λ n. prepared_output g p a q n (bits_of state)) x;
       kept = λ n. absurd (n refl);
     }
+
+-- the same of the front n words, where n is t
+pub ran_part : (g : Fields) (t n : ℕ) (state was : List ℕ) → 0 ≡ outputs_refusal g t state (length was) → (p : Prepared) → PreparedFor g p
+    → (mid : List ℕ) → Front (length (take n was)) (λ n. output (machine_of p) n (bits_of state)) (take n was) mid → n ≡ t → RanAs g t state was 0 (mid ++ drop n was)
+ran_part g t n state was z p q mid x e = rw e (ran_as g t state was z p q mid (rw e at x))
