@@ -77,11 +77,12 @@ pub fn of_gfsr(g: Fields) -> Gfsr
 // The numbers of kinds 3 and 4 where the last word lacks p bits and the right shifts are u and v, whatever the fields say of these three.
 pub fn twister_numbers(g: Fields, p: usize, u: usize, v: usize) -> TwisterNumbers
     requires { TwistRanges g × (p ≤ g.w) }
-    ensures { Numbers4 g result p u v }
+    ensures { (result.kind ≡ g.kind) × Numbers4 g result p u v }
 {
     let r = usize::from(g.r);
     let w = usize::from(g.w);
     TwisterNumbers {
+        kind: g.kind,
         k: r * w - p,
         r,
         m: usize::from(g.m),

@@ -49,9 +49,10 @@ pub struct Twister {
     pub ghost shifts: { (u ≤ w) × (s ≤ w) × (t ≤ w) × (v ≤ w) },
 }
 
-// The numbers that a `Twister` is made of, with the state bits: of any shifts, and of p up to a whole word, so of more than can run.
+// The numbers that a `Twister` is made of, with the kind and the state bits: of any shifts, and of p up to a whole word, so of more than can run.
 #[derive(Clone, Copy)]
 pub struct TwisterNumbers {
+    pub kind: u8,
     pub k: usize,
     pub r: usize,
     pub m: usize,
