@@ -9,8 +9,7 @@ use crate::Rows;
 use document::ROW_WORDS;
 use running::Gfsr;
 
-// The row with the n bits of y added at position pos, if they are chosen. A turn of `backed` is this, written out: it has the choice
-// where the row is, and so copies none.
+// The row with the n bits of y added at position pos, if they are chosen. A turn of `backed` is this, written out.
 pub fn placed_if(
     chosen: bool,
     row: [u64; ROW_WORDS],

@@ -1,5 +1,5 @@
 -- A prepared generator: the machine that its numbers stand for, the ranges that they keep, and what `prepare` makes them of a description.
-use Rattle.std.specs.Prelude.{◌≡◌, List, ℕ, suc, ◌-◌, ◌<◌, ◌≤◌, ◌^◌, ◌⊎◌}
+use Rattle.std.specs.Prelude.{◌≡◌, List, ℕ, suc, ◌-◌, ◌*◌, ◌<◌, ◌≤◌, ◌^◌, ◌⊎◌}
 use Rattle.digits.specs.Def.{Word, Same, digit, bits_of, word_of}
 use Rattle.kinds.specs.Generator.{Machine, stepped, times, tausworthe, gfsr, mersenne}
 use Rattle.kinds.specs.Transpose.{taps}
@@ -11,6 +11,7 @@ use Rattle.running.specs.Ranges.{Mask, Words}
 use Rattle.running.specs.declared.ready.Tausworthe.{Tausworthe}
 use Rattle.running.specs.declared.ready.Gfsr.{Gfsr}
 use Rattle.running.specs.declared.ready.Twister.{Twister}
+use Rattle.running.specs.declared.ready.TwisterNumbers.{TwisterNumbers}
 use Rattle.running.specs.declared.ready.Prepared.{Prepared}
 use Rattle.running.specs.declared.ready.Prepared.TheVariants.{Tausworthe as OfTausworthe, Gfsr as OfGfsr, Twister as OfTwister}
 
@@ -76,6 +77,22 @@ pub record Prepared2 (g : Fields) (p : Gfsr) : Type 0 where
 
 -- `dead` bits lack in the last word, and the right shifts are `first` and `last`
 pub record Prepared4 (g : Fields) (x : Twister) (dead first last : ℕ) : Type 0 where
+  pub bits : x.bits ≡ g.bits
+  pub r : x.r ≡ g.r
+  pub m : x.m ≡ g.m
+  pub w : x.w ≡ g.w
+  pub p : x.p ≡ dead
+  pub a : Holds g.w (word_of g.w g.a) x.a
+  pub u : x.u ≡ first
+  pub s : x.s ≡ g.s
+  pub b : Holds g.w (word_of g.w g.b) x.b
+  pub t : x.t ≡ g.t
+  pub c : Holds g.w (word_of g.w g.c) x.c
+  pub v : x.v ≡ last
+
+-- the same of the numbers alone, and the state bits
+pub record Numbers4 (g : Fields) (x : TwisterNumbers) (dead first last : ℕ) : Type 0 where
+  pub k : x.k ≡ g.r * g.w - dead
   pub bits : x.bits ≡ g.bits
   pub r : x.r ≡ g.r
   pub m : x.m ≡ g.m

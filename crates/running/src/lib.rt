@@ -16,7 +16,7 @@ mod ready;
 pub mod tausworthe;
 pub mod twister;
 
-pub use ready::{Gfsr, Prepared, Tausworthe, Twister};
+pub use ready::{Gfsr, Prepared, Tausworthe, Twister, TwisterNumbers};
 
 // What runs: a machine, moved and asked on the state's words.
 pub trait Runs {

@@ -5,9 +5,9 @@ ghost use Rattle.kinds.specs.Transpose.{taps};
 ghost use Rattle.document.specs.Limits.{most_bits, most_output};
 ghost use Rattle.document.specs.Ranges.{Ranges1, Ranges2, Ranges4, TwistRanges};
 ghost use Rattle.states.specs.Post.{Holds};
-ghost use Rattle.running.specs.Prepared.{Prepared1, Prepared2, Prepared4};
+ghost use Rattle.running.specs.Prepared.{Prepared1, Prepared2, Prepared4, Numbers4};
 
-use crate::{Gfsr, Tausworthe, Twister};
+use crate::{Gfsr, Tausworthe, Twister, TwisterNumbers};
 use document::{COEFFICIENT_BYTES, Fields, ROW_WORDS};
 use states::words;
 
@@ -74,15 +74,19 @@ pub fn of_gfsr(g: Fields) -> Gfsr
     }
 }
 
-// Kinds 3 and 4: the last word lacks p bits, and the right shifts are u and v, whatever the fields say of these three.
-pub fn shaped(g: Fields, p: usize, u: usize, v: usize) -> Twister
-    requires { TwistRanges g × (p < g.w) × (u ≤ g.w) × (v ≤ g.w) }
-    ensures { Prepared4 g result p u v }
+// The numbers of kinds 3 and 4 where the last word lacks p bits and the right shifts are u and v, whatever the fields say of these three.
+pub fn twister_numbers(g: Fields, p: usize, u: usize, v: usize) -> TwisterNumbers
+    requires { TwistRanges g × (p ≤ g.w) }
+    ensures { (result.kind ≡ g.kind) × Numbers4 g result p u v }
 {
-    Twister {
-        r: usize::from(g.r),
+    let r = usize::from(g.r);
+    let w = usize::from(g.w);
+    TwisterNumbers {
+        kind: g.kind,
+        k: r * w - p,
+        r,
         m: usize::from(g.m),
-        w: usize::from(g.w),
+        w,
         p,
         bits: usize::from(g.bits),
         a: word_of(g.a, g.w),
@@ -92,6 +96,28 @@ pub fn shaped(g: Fields, p: usize, u: usize, v: usize) -> Twister
         t: usize::from(g.t),
         c: word_of(g.c, g.w),
         v,
+    }
+}
+
+// The generator of those numbers, where they can run.
+pub fn shaped(g: Fields, p: usize, u: usize, v: usize) -> Twister
+    requires { TwistRanges g × (p < g.w) × (u ≤ g.w) × (v ≤ g.w) }
+    ensures { Prepared4 g result p u v }
+{
+    let n = twister_numbers(g, p, u, v);
+    Twister {
+        r: n.r,
+        m: n.m,
+        w: n.w,
+        p: n.p,
+        bits: n.bits,
+        a: n.a,
+        u: n.u,
+        s: n.s,
+        b: n.b,
+        t: n.t,
+        c: n.c,
+        v: n.v,
     }
 }
 

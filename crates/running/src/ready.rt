@@ -49,6 +49,25 @@ pub struct Twister {
     pub ghost shifts: { (u ≤ w) × (s ≤ w) × (t ≤ w) × (v ≤ w) },
 }
 
+// The numbers that a `Twister` is made of, with the kind and the state bits: of any shifts, and of p up to a whole word, so of more than can run.
+#[derive(Clone, Copy)]
+pub struct TwisterNumbers {
+    pub kind: u8,
+    pub k: usize,
+    pub r: usize,
+    pub m: usize,
+    pub w: usize,
+    pub p: usize,
+    pub bits: usize,
+    pub a: u64,
+    pub u: usize,
+    pub s: usize,
+    pub b: u64,
+    pub t: usize,
+    pub c: u64,
+    pub v: usize,
+}
+
 // A generator made ready: which of the three it is says how it moves.
 #[derive(Clone, Copy)]
 pub enum Prepared {
